@@ -1,0 +1,10 @@
+pub mod Outcomes
+pub mod Depth
+pub mod Determinism
+pub mod Computing
+pub mod Statements
+pub mod Lexing
+pub mod Escapes
+pub mod Folds
+pub mod Printing
+pub mod Samples

@@ -1,0 +1,108 @@
+-- The printed text of a script that writes texts spells it.
+use Rattle.std.proofs.Common.{◌≡◌, ℕ, ◌<◌, List, [], ◌∷◌, ◌++◌, map, codes, refl, sym, ap, subst, inl, append_assoc}
+use Rattle.std.specs.List.{flat_map, AllByRecursion}
+use Rattle.es5_tree.specs.Text.{escaped, literal}
+use Rattle.es5_tree.specs.Tokens.{Dot, OpenParen, CloseParen, Semicolon, character, Space, Word, Str, Mark, Piece, Lexes, tokens_of}
+use Rattle.es5_tree.specs.Spells.{form_of, write_tokens}
+use Rattle.es5_tree.specs.Laws.{TextSpells}
+use Rattle.es5_tree.proofs.Escapes.{characters_back}
+use Rattle.es5_tree.proofs.Folds.{bare_writes, line, lines, text_of_writes}
+
+abbrev newline : Piece
+newline = record { form = Space; slice = 10 ∷ [] }
+
+-- the pieces of a statement on a line of its own, and those behind them
+abbrev pub line_pieces : List ℕ → List Piece → List Piece
+line_pieces text pieces =
+    record { form = Word (codes "$host"); slice = codes "$host" }
+    ∷ record { form = Mark Dot; slice = codes "." }
+    ∷ record { form = Word (codes "write"); slice = codes "write" }
+    ∷ record { form = Mark OpenParen; slice = codes "(" }
+    ∷ record { form = Str text; slice = literal text }
+    ∷ record { form = Mark CloseParen; slice = codes ")" }
+    ∷ record { form = Mark Semicolon; slice = codes ";" }
+    ∷ newline
+    ∷ pieces
+
+abbrev pub body_pieces : List (List ℕ) → List Piece
+body_pieces [] = []
+body_pieces (text ∷ texts) = line_pieces text (body_pieces texts)
+
+-- the directive on a line of its own, and the statements
+abbrev pub script_pieces : List (List ℕ) → List Piece
+script_pieces texts =
+    record { form = Str (codes "use strict"); slice = codes "\"use strict\"" }
+    ∷ record { form = Mark Semicolon; slice = codes ";" }
+    ∷ newline
+    ∷ body_pieces texts
+
+line_lexes : (text rest : List ℕ) (pieces : List Piece) → AllByRecursion (λ unit. unit < 65536) text → Lexes rest pieces → Lexes (line text rest) (line_pieces text pieces)
+line_lexes text rest pieces h l =
+    let behind = 41 ∷ 59 ∷ 10 ∷ rest in
+    let chars = flat_map escaped text ++ 34 ∷ behind in (
+      46 ∷ codes "write(\"" ++ chars,
+      refl,
+      (36, codes "host.write(\"" ++ chars, refl, refl, refl, refl),
+      (
+        codes "write(\"" ++ chars,
+        refl,
+        (46, refl, refl),
+        (
+          40 ∷ 34 ∷ chars,
+          refl,
+          (119, codes "rite(\"" ++ chars, refl, refl, refl, refl),
+          (
+            34 ∷ chars,
+            refl,
+            (40, refl, refl),
+            (
+              behind,
+              ap (λ l. 34 ∷ l) (sym (append_assoc (flat_map escaped text) (34 ∷ []) behind)),
+              (34, chars, refl, refl, characters_back text behind h),
+              (
+                59 ∷ 10 ∷ rest,
+                refl,
+                (41, refl, refl),
+                (
+                  10 ∷ rest,
+                  refl,
+                  (59, refl, refl),
+                  (rest, refl, (10, refl, refl), l),
+                ),
+              ),
+            ),
+          ),
+        ),
+      ),
+    )
+
+body_lexes : (texts : List (List ℕ)) → AllByRecursion (AllByRecursion (λ unit. unit < 65536)) texts → Lexes (lines texts) (body_pieces texts)
+body_lexes [] h = refl
+body_lexes (text ∷ texts) h = line_lexes text (lines texts) (body_pieces texts) h.0 (body_lexes texts h.1)
+
+pub script_lexes : (texts : List (List ℕ)) → AllByRecursion (AllByRecursion (λ unit. unit < 65536)) texts → Lexes (codes "\"use strict\";\n" ++ lines texts) (script_pieces texts)
+unfolding character
+script_lexes texts h = (
+  codes ";\n" ++ lines texts,
+  refl,
+  (34, codes "use strict\";\n" ++ lines texts, refl, refl, (1, refl, (1, refl, (1, refl, (1, refl, (1, refl, (1, refl, (1, refl, (1, refl, (1, refl, (1, refl, refl))))))))))),
+  (
+    10 ∷ lines texts,
+    refl,
+    (59, refl, refl),
+    (lines texts, refl, (10, refl, refl), body_lexes texts h),
+  ),
+)
+
+tokens_of_body : (texts : List (List ℕ)) → map form_of (tokens_of (body_pieces texts)) ≡ flat_map write_tokens texts
+tokens_of_body [] = refl
+tokens_of_body (text ∷ texts) = ap (λ l. write_tokens text ++ l) (tokens_of_body texts)
+
+pub text_spells_is : TextSpells
+text_spells_is texts h = record {
+  pieces = script_pieces texts;
+  lexed = subst (λ l. Lexes l (script_pieces texts)) (sym (text_of_writes texts)) (script_lexes texts h);
+  texts = texts;
+  parsed = (inl refl, ap (λ l. Mark Semicolon ∷ l) (tokens_of_body texts));
+  tree = bare_writes texts;
+}

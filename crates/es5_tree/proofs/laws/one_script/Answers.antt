@@ -1,0 +1,5 @@
+use Rattle.es5_tree.proofs.Lexing.{one_script_is}
+use Rattle.es5_tree.proofs.laws.one_script.Goals as goal
+
+pub returns : goal.returns
+returns c = one_script_is

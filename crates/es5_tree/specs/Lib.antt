@@ -1,0 +1,9 @@
+pub mod Tree
+pub mod Text
+pub mod Tokens
+pub mod Spells
+pub mod State
+pub mod Task
+pub mod Eval
+pub mod Run
+pub mod Laws

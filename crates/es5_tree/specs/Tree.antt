@@ -1,0 +1,36 @@
+-- Trees of scripts: short builders, and a tree without what no text shows.
+use Rattle.std.specs.Prelude.{ℕ, List, [], ◌∷◌, map, None, codes}
+use Rattle.opal_base.specs.declared.place.Pos.{Pos}
+use Rattle.es5_tree.specs.declared.tree.Script.{Script}
+use Rattle.es5_tree.specs.declared.tree.EsStmt.{EsStmt}
+use Rattle.es5_tree.specs.declared.tree.EsStmt.TheVariants as stmt
+use Rattle.es5_tree.specs.declared.tree.EsExpr.{EsExpr}
+use Rattle.es5_tree.specs.declared.tree.EsKind.{EsKind, roll-EsKind}
+use Rattle.es5_tree.specs.declared.tree.EsKind.TheFolds.{fold-EsExpr}
+use Rattle.es5_tree.specs.declared.tree.EsKind.TheVariants as kind
+
+abbrev pub start : Pos
+start = record { line = 0; col = 0 }
+
+-- an expression of no site and no place
+abbrev pub expr : EsKind → EsExpr
+expr form = record { kind = form; origin = None; pos = start }
+
+-- `$host.write(text);`
+abbrev pub write : List ℕ → EsStmt
+write text = stmt.Expr (expr (kind.Call (expr (kind.Member (expr (kind.Name (codes "$host"))) (codes "write"))) (expr (kind.Str text) ∷ [])))
+
+-- the script that writes the texts one after the other
+abbrev pub writes : List (List ℕ) → Script
+writes texts = record { body = map write texts }
+
+-- the same expression without its sites and places
+unfoldable pub bare_expr : EsExpr → EsExpr
+bare_expr = fold-EsExpr EsKind EsExpr roll-EsKind (λ e. expr e.kind)
+
+abbrev pub bare_stmt : EsStmt → EsStmt
+bare_stmt (stmt.Expr e) = stmt.Expr (bare_expr e)
+
+-- the same script without its sites and places
+abbrev pub bare : Script → Script
+bare script = record { body = map bare_stmt script.body }

@@ -1,0 +1,5 @@
+pub mod Decoding
+pub mod Delivery
+pub mod Places
+pub mod Texts
+pub mod Took

@@ -1,0 +1,4 @@
+pub mod Compiling
+pub mod Loads
+pub mod Reports
+pub mod Simulation

@@ -1,0 +1,9 @@
+pub mod Codes
+pub mod Words
+pub mod Translation
+pub mod Agree
+pub mod Ends
+pub mod Headline
+pub mod Answers
+pub mod Loading
+pub mod Laws

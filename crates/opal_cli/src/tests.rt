@@ -1,0 +1,239 @@
+use crate::call::opal;
+use crate::status::Status;
+use crate::words::{Command, read_words};
+use opal_base::{MemFiles, MemSink, SureSource};
+use std::test::Fail;
+
+const USAGE: &[u8] =
+    b"usage: opal compile FILE | map FILE | check FILE | run SCRIPT [--steps N] [--cells N] | exec FILE [--steps N] [--cells N] | sample N\n";
+
+/// A call of the program over objects in memory.
+#[derive(Drop)]
+struct Call<'a> {
+    words: &'a [&'a str],
+    file: &'a [u8],
+    files_fail: &'a [u64],
+    out_most: usize,
+    out_fails: &'a [u64],
+    err_fails: &'a [u64],
+}
+
+impl<'a> Call<'a> {
+    fn of(words: &'a [&'a str], file: &'a [u8]) -> Call<'a> {
+        Call {
+            words,
+            file,
+            files_fail: &[],
+            out_most: 4096,
+            out_fails: &[],
+            err_fails: &[],
+        }
+    }
+
+    // The status, and what out and err took. The file lies under `main.rb` and `dir/main.rb`.
+    fn ran(&self, rt: &HostRuntime) -> Result<(Status, Vec<u8>, Vec<u8>), Fail> {
+        let alloc = rt.alloc();
+        let mut files = MemFiles::new(alloc, self.files_fail.to_vec(alloc)?);
+        for name in ["main.rb", "dir/main.rb"] {
+            if files
+                .insert(name.to_string(alloc)?, self.file.to_vec(alloc)?)
+                .is_err()
+            {
+                return Ok((Status::NoMemory, Vec::new(alloc), Vec::new(alloc)));
+            }
+        }
+        let mut words = Vec::new(alloc);
+        for word in self.words {
+            words.push(word.to_string(alloc)?)?;
+        }
+        let mut input = SureSource::new(alloc, Vec::new(alloc));
+        let mut out = MemSink::new(alloc, self.out_most.max(1), self.out_fails.to_vec(alloc)?);
+        let mut err = MemSink::new(alloc, 3, self.err_fails.to_vec(alloc)?);
+        let status = opal(alloc, &words, &mut files, &mut input, &mut out, &mut err);
+        Ok((
+            status,
+            out.taken().to_vec(alloc)?,
+            err.taken().to_vec(alloc)?,
+        ))
+    }
+}
+
+#[test]
+fn files_are_compiled(rt: HostRuntime) -> Result<(), Fail> {
+    let cases: [(&[u8], &[u8]); 9] = [
+        (b"puts 'hi'", b"\"use strict\";\n$host.write(\"hi\\n\");\n"),
+        (
+            b"puts 'hi'\n",
+            b"\"use strict\";\n$host.write(\"hi\\n\");\n",
+        ),
+        (
+            b"puts '\xc3\xa9'",
+            b"\"use strict\";\n$host.write(\"\\u00e9\\n\");\n",
+        ),
+        (b"", b"\"use strict\";\n"),
+        (b"puts ''\n", b"\"use strict\";\n$host.write(\"\\n\");\n"),
+        (
+            b"puts 'a'\nputs 'b'",
+            b"\"use strict\";\n$host.write(\"a\\n\");\n$host.write(\"b\\n\");\n",
+        ),
+        (
+            b"puts '\"\t~\x7f'",
+            b"\"use strict\";\n$host.write(\"\\\"\\t~\\u007f\\n\");\n",
+        ),
+        (
+            b"puts '\xf0\x9f\x98\x80'",
+            b"\"use strict\";\n$host.write(\"\\ud83d\\ude00\\n\");\n",
+        ),
+        (
+            b"puts '#{x}'",
+            b"\"use strict\";\n$host.write(\"#{x}\\n\");\n",
+        ),
+    ];
+    for (file, script) in cases {
+        let (status, out, err) = Call::of(&["compile", "main.rb"], file).ran(&rt)?;
+        assert_eq!(rt; status, Status::Done);
+        assert_eq!(rt; out.as_slice(), script);
+        assert!(rt; err.is_empty());
+    }
+    Ok(())
+}
+
+#[test]
+fn refusals_name_their_place(rt: HostRuntime) -> Result<(), Fail> {
+    let cases: [(&[u8], &[u8]); 9] = [
+        (b"puts 'a'\nx = 1", b"dir/main.rb:2:1: refused: NotYet\n"),
+        (b"puts 'a'\r\n", b"dir/main.rb:1:1: refused: NotYet\n"),
+        (b"puts 'a'\n\n", b"dir/main.rb:2:1: refused: NotYet\n"),
+        (b"puts \"a\"", b"dir/main.rb:1:1: refused: NotYet\n"),
+        (b"puts 'a\\\\'", b"dir/main.rb:1:1: refused: NotYet\n"),
+        (b"\xff", b"dir/main.rb:1:1: refused: BadByte\n"),
+        (
+            b"puts 'a'\n\xc3\xa9\xf0\x9f\x98\x80\xc0\x80",
+            b"dir/main.rb:2:4: refused: BadByte\n",
+        ),
+        (b"x\n\xed\xa0\x80", b"dir/main.rb:2:1: refused: BadByte\n"),
+        (b"puts '\xe2\x82", b"dir/main.rb:1:7: refused: BadByte\n"),
+    ];
+    for (file, line) in cases {
+        let (status, out, err) = Call::of(&["compile", "dir/main.rb"], file).ran(&rt)?;
+        assert_eq!(rt; status, Status::Refused);
+        assert!(rt; out.is_empty());
+        assert_eq!(rt; err.as_slice(), line);
+    }
+    Ok(())
+}
+
+#[test]
+fn words_without_a_reading_are_usage(rt: HostRuntime) -> Result<(), Fail> {
+    let cases: [&[&str]; 8] = [
+        &[],
+        &["compile"],
+        &["compile", ""],
+        &["compile", "-x"],
+        &["compile", "main.rb", "main.rb"],
+        &["Compile", "main.rb"],
+        &["map", "main.rb"],
+        &["main.rb"],
+    ];
+    for words in cases {
+        let (status, out, err) = Call::of(words, b"puts 'a'").ran(&rt)?;
+        assert_eq!(rt; status, Status::Usage);
+        assert_eq!(rt; status.code(), 2);
+        assert!(rt; out.is_empty());
+        assert_eq!(rt; err.as_slice(), USAGE);
+    }
+    let alloc = rt.alloc();
+    let words = vec![in alloc; "compile".to_string(alloc)?, "a b".to_string(alloc)?]?;
+    let file = match read_words(&words) {
+        Some(Command::Compile(file)) => file,
+        None => "",
+    };
+    assert_eq!(rt; file, "a b");
+    Ok(())
+}
+
+#[test]
+fn files_that_fail_or_are_absent(rt: HostRuntime) -> Result<(), Fail> {
+    let (status, out, err) = Call::of(&["compile", "other.rb"], b"").ran(&rt)?;
+    assert_eq!(rt; status, Status::Missing);
+    assert!(rt; out.is_empty());
+    assert_eq!(rt; err.as_slice(), b"missing: other.rb\n".as_slice());
+    let call = Call {
+        files_fail: &[0],
+        ..Call::of(&["compile", "main.rb"], b"puts 'a'")
+    };
+    let (status, out, err) = call.ran(&rt)?;
+    assert_eq!(rt; status, Status::ReadFault);
+    assert!(rt; out.is_empty());
+    assert_eq!(rt; err.as_slice(), b"read fault\n".as_slice());
+    Ok(())
+}
+
+#[test]
+fn out_fails_at_each_call_in_turn(rt: HostRuntime) -> Result<(), Fail> {
+    let script: &[u8] = b"\"use strict\";\n$host.write(\"hi\\n\");\n";
+    for at in 0..5u64 {
+        let call = Call {
+            out_most: 7,
+            out_fails: &[at],
+            ..Call::of(&["compile", "main.rb"], b"puts 'hi'")
+        };
+        let (status, out, err) = call.ran(&rt)?;
+        assert_eq!(rt; status, Status::WriteFault);
+        assert_eq!(rt; out.as_slice(), &script[..at as usize * 7]);
+        assert_eq!(rt; err.as_slice(), b"write fault\n".as_slice());
+    }
+    Ok(())
+}
+
+#[test]
+fn err_fails_and_its_fault_is_told_once(rt: HostRuntime) -> Result<(), Fail> {
+    // three bytes a call: the second call fails, and then the line of the fault follows
+    let call = Call {
+        err_fails: &[1],
+        ..Call::of(&["compile", "other.rb"], b"")
+    };
+    let (status, _, err) = call.ran(&rt)?;
+    assert_eq!(rt; status, Status::WriteFault);
+    assert_eq!(rt; err.as_slice(), b"miswrite fault\n".as_slice());
+    let call = Call {
+        err_fails: &[0, 1],
+        ..Call::of(&[], b"")
+    };
+    let (status, _, err) = call.ran(&rt)?;
+    assert_eq!(rt; status, Status::WriteFault);
+    assert!(rt; err.is_empty());
+    let call = Call {
+        out_fails: &[0],
+        err_fails: &[2],
+        ..Call::of(&["compile", "main.rb"], b"")
+    };
+    let (status, _, err) = call.ran(&rt)?;
+    assert_eq!(rt; status, Status::WriteFault);
+    assert_eq!(rt; err.as_slice(), b"write ".as_slice());
+    Ok(())
+}
+
+#[test]
+fn the_longest_file_and_one_byte_more(rt: HostRuntime) -> Result<(), Fail> {
+    let alloc = rt.alloc();
+    let mut file = Vec::new(alloc);
+    file.extend_from_slice(b"puts '")?;
+    for _ in 0..1_048_569u32 {
+        file.push(b'a')?;
+    }
+    file.push(b'\'')?;
+    let (status, out, _) = Call::of(&["compile", "main.rb"], &file).ran(&rt)?;
+    assert_eq!(rt; status, Status::Done);
+    // the directive's line, `$host.write("`, the text, and `\n");` with a newline
+    assert_eq!(rt; out.len(), 14 + 13 + 1_048_569 + 6);
+    file.push(b'\n')?;
+    let (status, out, err) = Call::of(&["compile", "main.rb"], &file).ran(&rt)?;
+    assert_eq!(rt; status, Status::Refused);
+    assert!(rt; out.is_empty());
+    assert_eq!(rt;
+        err.as_slice(),
+        b"main.rb:1:1: refused: FileTooLong\n".as_slice()
+    );
+    Ok(())
+}

@@ -1,0 +1,5 @@
+pub mod Growth
+pub mod InTurn
+pub mod Loading
+pub mod Longer
+pub mod Quoted

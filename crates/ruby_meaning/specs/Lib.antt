@@ -1,0 +1,7 @@
+pub mod Constructs
+pub mod Lines
+pub mod State
+pub mod Eval
+pub mod Run
+pub mod Load
+pub mod Laws
