@@ -3,3 +3,4 @@ pub mod InTurn
 pub mod Loading
 pub mod Longer
 pub mod Quoted
+pub mod Lexing

@@ -1,4 +1,5 @@
 pub mod Constructs
+pub mod Lexing
 pub mod Lines
 pub mod State
 pub mod Eval

@@ -1,8 +1,8 @@
 ghost use Rattle.std.specs.Prelude.{◌≡◌};
 ghost use Rattle.ruby_meaning.specs.Constructs.{construct_name};
-ghost use Rattle.ruby_meaning.specs.declared.construct.Stop.TheVariants.{NoMemory};
+ghost use Rattle.ruby_meaning.specs.declared.construct.Stop.TheVariants as stop;
 
-use opal_base::Pos;
+use opal_base::{NoMemory, Pos};
 use std::alloc::AllocError;
 
 /// What a refusal names: a construct outside the profile, or a limit that is passed.
@@ -85,10 +85,18 @@ pub enum Stop {
 }
 
 impl From<AllocError> for Stop {
-    ghost from_gives = { λ _ stop. stop ≡ NoMemory };
+    ghost from_gives = { λ _ result. result ≡ stop.NoMemory };
 
     fn from(_e: AllocError) -> Stop {
         Stop::NoMemory
+    }
+}
+
+impl From<NoMemory> for Stop {
+    ghost from_gives = { λ _ result. result ≡ stop.NoMemory };
+
+    fn from(_none: NoMemory) -> Stop {
+        Self::NoMemory
     }
 }
 

@@ -2,11 +2,25 @@
 #![tactic(auto)]
 
 mod construct;
+mod form;
 mod laws;
+mod open_texts;
+mod spot;
+mod table;
+mod token;
+mod token_laws;
 mod tree;
 mod value;
 
 pub use construct::{Construct, Stop};
+pub use form::{
+    Bracket, Class, Ending, Form, MethodPlace, Mode, Opener, Place, Reserved, Spelling, Stand,
+};
 pub use laws::{one_load, one_reading, puts_in_turn, runs};
+pub use open_texts::OpenTexts;
+pub use spot::Spot;
+pub use table::{BLOCK_BEGIN, BLOCK_END, END_LINE, MARKS, METHOD_MARKS, RESERVED};
+pub use token::{Mark, Token, TokenKind, Tokens, Word};
+pub use token_laws::{longest_sign, one_lexing, quoted_reads, tokens_placed};
 pub use tree::{Bundle, Kind, Node, Nodes, Program};
 pub use value::Value;

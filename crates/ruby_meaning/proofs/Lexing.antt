@@ -1,0 +1,10 @@
+pub mod Once
+pub mod Places
+pub mod Order
+pub mod Fits
+pub mod Total
+pub mod Signs
+pub mod Runs
+pub mod Chars
+pub mod Steps
+pub mod Written

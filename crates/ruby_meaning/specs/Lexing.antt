@@ -1,0 +1,12 @@
+pub mod Characters
+pub mod Runs
+pub mod Before
+pub mod Numbers
+pub mod Texts
+pub mod Words
+pub mod Signs
+pub mod Stands
+pub mod OpenTexts
+pub mod Lexes
+pub mod Laws
+pub mod Written

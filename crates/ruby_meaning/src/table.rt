@@ -1,0 +1,145 @@
+//! The words and signs of the language.
+
+use crate::construct::Construct;
+use crate::form::Reserved;
+use crate::token::{Mark, Word};
+
+/// Keywords, and the words and global variables outside the profile.
+pub const RESERVED: [(&[u8], Reserved); 47] = [
+    (b"alias", Reserved::Keyword(Word::Alias)),
+    (b"and", Reserved::Keyword(Word::And)),
+    (b"begin", Reserved::Keyword(Word::Begin)),
+    (b"break", Reserved::Keyword(Word::Break)),
+    (b"case", Reserved::Keyword(Word::Case)),
+    (b"class", Reserved::Keyword(Word::Class)),
+    (b"def", Reserved::Keyword(Word::Def)),
+    (b"do", Reserved::Keyword(Word::Do)),
+    (b"else", Reserved::Keyword(Word::Else)),
+    (b"elsif", Reserved::Keyword(Word::Elsif)),
+    (b"end", Reserved::Keyword(Word::End)),
+    (b"ensure", Reserved::Keyword(Word::Ensure)),
+    (b"false", Reserved::Keyword(Word::False)),
+    (b"for", Reserved::Keyword(Word::For)),
+    (b"if", Reserved::Keyword(Word::If)),
+    (b"in", Reserved::Keyword(Word::In)),
+    (b"module", Reserved::Keyword(Word::Module)),
+    (b"next", Reserved::Keyword(Word::Next)),
+    (b"nil", Reserved::Keyword(Word::Nil)),
+    (b"not", Reserved::Keyword(Word::Not)),
+    (b"or", Reserved::Keyword(Word::Or)),
+    (b"rescue", Reserved::Keyword(Word::Rescue)),
+    (b"retry", Reserved::Keyword(Word::Retry)),
+    (b"return", Reserved::Keyword(Word::Return)),
+    (b"self", Reserved::Keyword(Word::Self_)),
+    (b"super", Reserved::Keyword(Word::Super)),
+    (b"then", Reserved::Keyword(Word::Then)),
+    (b"true", Reserved::Keyword(Word::True)),
+    (b"undef", Reserved::Keyword(Word::Undef)),
+    (b"unless", Reserved::Keyword(Word::Unless)),
+    (b"until", Reserved::Keyword(Word::Until)),
+    (b"when", Reserved::Keyword(Word::When)),
+    (b"while", Reserved::Keyword(Word::While)),
+    (b"yield", Reserved::Keyword(Word::Yield)),
+    (b"defined?", Reserved::Refused(Construct::DefinedTest)),
+    (b"redo", Reserved::Refused(Construct::Redo)),
+    (b"BEGIN", Reserved::Refused(Construct::BeginEndBlock)),
+    (b"END", Reserved::Refused(Construct::BeginEndBlock)),
+    (b"$stdin", Reserved::Refused(Construct::SpecialGlobal)),
+    (b"$stdout", Reserved::Refused(Construct::SpecialGlobal)),
+    (b"$stderr", Reserved::Refused(Construct::SpecialGlobal)),
+    (
+        b"$PROGRAM_NAME",
+        Reserved::Refused(Construct::SpecialGlobal),
+    ),
+    (b"$LOAD_PATH", Reserved::Refused(Construct::SpecialGlobal)),
+    (
+        b"$LOADED_FEATURES",
+        Reserved::Refused(Construct::SpecialGlobal),
+    ),
+    (b"$DEBUG", Reserved::Refused(Construct::SpecialGlobal)),
+    (b"$VERBOSE", Reserved::Refused(Construct::SpecialGlobal)),
+    (b"$FILENAME", Reserved::Refused(Construct::SpecialGlobal)),
+];
+
+/// The operators, brackets and other signs. Longer ones stand first.
+pub const MARKS: [(&[u8], Mark); 49] = [
+    (b"...", Mark::DotDotDot),
+    (b"<=>", Mark::Compare),
+    (b"===", Mark::TripleEqual),
+    (b"&&=", Mark::AndSet),
+    (b"||=", Mark::OrSet),
+    (b"**=", Mark::PowerSet),
+    (b"<<=", Mark::ShiftLeftSet),
+    (b"**", Mark::Power),
+    (b"==", Mark::Equal),
+    (b"!=", Mark::NotEqual),
+    (b"<=", Mark::LessEqual),
+    (b">=", Mark::GreaterEqual),
+    (b"=>", Mark::FatArrow),
+    (b"->", Mark::Arrow),
+    (b"<<", Mark::ShiftLeft),
+    (b">>", Mark::ShiftRight),
+    (b"&&", Mark::And),
+    (b"||", Mark::Or),
+    (b"..", Mark::DotDot),
+    (b"::", Mark::ColonColon),
+    (b"+=", Mark::PlusSet),
+    (b"-=", Mark::MinusSet),
+    (b"*=", Mark::StarSet),
+    (b"/=", Mark::SlashSet),
+    (b"%=", Mark::PercentSet),
+    (b"+", Mark::Plus),
+    (b"-", Mark::Minus),
+    (b"*", Mark::Star),
+    (b"/", Mark::Slash),
+    (b"%", Mark::Percent),
+    (b"=", Mark::Assign),
+    (b"<", Mark::Less),
+    (b">", Mark::Greater),
+    (b"!", Mark::Bang),
+    (b"&", Mark::Ampersand),
+    (b"|", Mark::Pipe),
+    (b"^", Mark::Caret),
+    (b"~", Mark::Tilde),
+    (b"?", Mark::Question),
+    (b":", Mark::Colon),
+    (b";", Mark::Semicolon),
+    (b",", Mark::Comma),
+    (b".", Mark::Dot),
+    (b"(", Mark::ParenOpen),
+    (b")", Mark::ParenClose),
+    (b"[", Mark::BracketOpen),
+    (b"]", Mark::BracketClose),
+    (b"{", Mark::BraceOpen),
+    (b"}", Mark::BraceClose),
+];
+
+/// The operators that can be defined as methods. Longer ones stand first.
+pub const METHOD_MARKS: [(&[u8], Mark); 17] = [
+    (b"<=>", Mark::Compare),
+    (b"===", Mark::TripleEqual),
+    (b"[]=", Mark::IndexSet),
+    (b"**", Mark::Power),
+    (b"-@", Mark::Negate),
+    (b"==", Mark::Equal),
+    (b"<=", Mark::LessEqual),
+    (b">=", Mark::GreaterEqual),
+    (b"<<", Mark::ShiftLeft),
+    (b"[]", Mark::Index),
+    (b"+", Mark::Plus),
+    (b"-", Mark::Minus),
+    (b"*", Mark::Star),
+    (b"/", Mark::Slash),
+    (b"%", Mark::Percent),
+    (b"<", Mark::Less),
+    (b">", Mark::Greater),
+];
+
+/// The line that ends a text.
+pub const END_LINE: &[u8] = b"__END__";
+
+/// What the first line of a block comment begins with.
+pub const BLOCK_BEGIN: &[u8] = b"=begin";
+
+/// What the last line of a block comment begins with.
+pub const BLOCK_END: &[u8] = b"=end";
