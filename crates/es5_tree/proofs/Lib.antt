@@ -4,7 +4,13 @@ pub mod Determinism
 pub mod Computing
 pub mod Statements
 pub mod Lexing
+pub mod Grammar
+pub mod Cutting
+pub mod Fronts
+pub mod Deciding
+pub mod Placed
 pub mod Escapes
 pub mod Folds
 pub mod Printing
 pub mod Samples
+pub mod Sites

@@ -1,9 +1,13 @@
 -- The printed text of a script that writes texts spells it.
-use Rattle.std.proofs.Common.{◌≡◌, ℕ, ◌<◌, List, [], ◌∷◌, ◌++◌, map, codes, refl, sym, ap, subst, inl, append_assoc}
+use Rattle.std.proofs.Common.{◌≡◌, ℕ, ◌<◌, List, [], ◌∷◌, ◌++◌, map, codes, refl, sym, ap, subst, length, append_assoc}
 use Rattle.std.specs.List.{flat_map, AllByRecursion}
-use Rattle.es5_tree.specs.Text.{escaped, literal}
-use Rattle.es5_tree.specs.Tokens.{Dot, OpenParen, CloseParen, Semicolon, character, Space, Word, Str, Mark, Piece, Lexes, tokens_of}
-use Rattle.es5_tree.specs.Spells.{form_of, write_tokens}
+use Rattle.es5_tree.specs.Tree.{writes}
+use Rattle.es5_tree.specs.Text.{escaped, literal, text_of}
+use Rattle.es5_tree.specs.Tokens.{character, Space, Word, Str, Mark, Piece, Lexes}
+use Rattle.es5_tree.specs.declared.token.EsMark.TheVariants.{Dot, OpenParen, CloseParen, Semicolon}
+use Rattle.es5_tree.specs.declared.token.EsTokenKind.TheVariants as kind
+use Rattle.es5_tree.specs.Lexed.{tokens_from, token_at}
+use Rattle.es5_tree.specs.Spells.{token_kind, write_kinds, body_kinds}
 use Rattle.es5_tree.specs.Laws.{TextSpells}
 use Rattle.es5_tree.proofs.Escapes.{characters_back}
 use Rattle.es5_tree.proofs.Folds.{bare_writes, line, lines, text_of_writes}
@@ -94,15 +98,20 @@ script_lexes texts h = (
   ),
 )
 
-tokens_of_body : (texts : List (List ℕ)) → map form_of (tokens_of (body_pieces texts)) ≡ flat_map write_tokens texts
-tokens_of_body [] = refl
-tokens_of_body (text ∷ texts) = ap (λ l. write_tokens text ++ l) (tokens_of_body texts)
+-- the kinds of the statements' tokens, from any byte on
+kinds_of_body : (bytes : List ℕ) (end : ℕ) (texts : List (List ℕ)) (from : ℕ) → map token_kind (tokens_from bytes from (body_pieces texts) ++ token_at bytes end 0 kind.End ∷ []) ≡ body_kinds texts
+kinds_of_body bytes end [] from = refl
+kinds_of_body bytes end (text ∷ texts) from = ap (λ l. write_kinds text ++ l) (kinds_of_body bytes end texts _)
 
 pub text_spells_is : TextSpells
 text_spells_is texts h = record {
-  pieces = script_pieces texts;
-  lexed = subst (λ l. Lexes l (script_pieces texts)) (sym (text_of_writes texts)) (script_lexes texts h);
+  tokens = tokens_from (text_of (writes texts)) 0 (script_pieces texts) ++ token_at (text_of (writes texts)) (length (text_of (writes texts))) 0 kind.End ∷ [];
+  lexed = record {
+    pieces = script_pieces texts;
+    lexed = subst (λ l. Lexes l (script_pieces texts)) (sym (text_of_writes texts)) (script_lexes texts h);
+    same = refl;
+  };
   texts = texts;
-  parsed = (inl refl, ap (λ l. Mark Semicolon ∷ l) (tokens_of_body texts));
+  parsed = ((refl, refl), ap (λ l. kind.Mark Semicolon ∷ l) (kinds_of_body _ _ texts _));
   tree = bare_writes texts;
 }

@@ -1,10 +1,13 @@
 -- What the definitions say of two small scripts.
-use Rattle.std.proofs.Common.{◌≡◌, ℕ, List, [], ◌∷◌, codes, refl, ap, inr}
+use Rattle.std.proofs.Common.{◌≡◌, ℕ, List, [], ◌∷◌, ◌++◌, codes, refl, ap, length}
 use lib.Utf8.{encode}
 use Rattle.opal_base.specs.Shown.{Ended}
 use Rattle.opal_base.specs.Text.{utf8_of}
 use Rattle.opal_base.proofs.Texts.{text_printed_back_is}
-use Rattle.es5_tree.specs.Tokens.{Dot, OpenParen, CloseParen, Semicolon, character, Characters, Form, Space, Word, Str, Mark, Piece}
+use Rattle.es5_tree.specs.Tokens.{character, Characters, Form, Space, Word, Str, Mark, Piece}
+use Rattle.es5_tree.specs.declared.token.EsMark.TheVariants.{Dot, OpenParen, CloseParen, Semicolon}
+use Rattle.es5_tree.specs.declared.token.EsTokenKind.TheVariants as kind
+use Rattle.es5_tree.specs.Lexed.{tokens_from, token_at}
 use Rattle.es5_tree.specs.Run.{Finished, es_run}
 use Rattle.es5_tree.specs.Laws.{HiPrinted, HiSpelled, HiRuns, HelloThrows}
 use Rattle.es5_tree.proofs.Computing.{computing}
@@ -27,6 +30,9 @@ hello_throws_is input = (refl, refl)
 
 abbrev piece : Form → List ℕ → Piece
 piece form slice = record { form = form; slice = slice }
+
+abbrev written : List ℕ
+written = codes "'use strict' ; $host . write('\\x68\\u0069') ;"
 
 abbrev pieces : List Piece
 pieces =
@@ -53,60 +59,63 @@ hi_escaped = (4, refl, (6, refl, refl))
 pub hi_spelled_is : HiSpelled
 unfolding character
 hi_spelled_is = record {
-  pieces = pieces;
-  lexed = (
-    codes " ; $host . write('\\x68\\u0069') ;",
-    refl,
-    (39, _, refl, refl, (1, refl, (1, refl, (1, refl, (1, refl, (1, refl, (1, refl, (1, refl, (1, refl, (1, refl, (1, refl, refl))))))))))),
-    (
-      codes "; $host . write('\\x68\\u0069') ;",
+  tokens = tokens_from written 0 pieces ++ token_at written (length written) 0 kind.End ∷ [];
+  lexed = record {
+    pieces = pieces;
+    lexed = (
+      codes " ; $host . write('\\x68\\u0069') ;",
       refl,
-      (32, refl, refl),
+      (39, _, refl, refl, (1, refl, (1, refl, (1, refl, (1, refl, (1, refl, (1, refl, (1, refl, (1, refl, (1, refl, (1, refl, refl))))))))))),
       (
-        codes " $host . write('\\x68\\u0069') ;",
+        codes "; $host . write('\\x68\\u0069') ;",
         refl,
-        (59, refl, refl),
+        (32, refl, refl),
         (
-          codes "$host . write('\\x68\\u0069') ;",
+          codes " $host . write('\\x68\\u0069') ;",
           refl,
-          (32, refl, refl),
+          (59, refl, refl),
           (
-            codes " . write('\\x68\\u0069') ;",
+            codes "$host . write('\\x68\\u0069') ;",
             refl,
-            (36, _, refl, refl, refl, refl),
+            (32, refl, refl),
             (
-              codes ". write('\\x68\\u0069') ;",
+              codes " . write('\\x68\\u0069') ;",
               refl,
-              (32, refl, refl),
+              (36, _, refl, refl, refl, refl),
               (
-                codes " write('\\x68\\u0069') ;",
+                codes ". write('\\x68\\u0069') ;",
                 refl,
-                (46, refl, refl),
+                (32, refl, refl),
                 (
-                  codes "write('\\x68\\u0069') ;",
+                  codes " write('\\x68\\u0069') ;",
                   refl,
-                  (32, refl, refl),
+                  (46, refl, refl),
                   (
-                    codes "('\\x68\\u0069') ;",
+                    codes "write('\\x68\\u0069') ;",
                     refl,
-                    (119, _, refl, refl, refl, refl),
+                    (32, refl, refl),
                     (
-                      codes "'\\x68\\u0069') ;",
+                      codes "('\\x68\\u0069') ;",
                       refl,
-                      (40, refl, refl),
+                      (119, _, refl, refl, refl, refl),
                       (
-                        codes ") ;",
+                        codes "'\\x68\\u0069') ;",
                         refl,
-                        (39, codes "\\x68\\u0069') ;", refl, refl, hi_escaped),
+                        (40, refl, refl),
                         (
-                          codes " ;",
+                          codes ") ;",
                           refl,
-                          (41, refl, refl),
+                          (39, codes "\\x68\\u0069') ;", refl, refl, hi_escaped),
                           (
-                            codes ";",
+                            codes " ;",
                             refl,
-                            (32, refl, refl),
-                            ([], refl, (59, refl, refl), refl),
+                            (41, refl, refl),
+                            (
+                              codes ";",
+                              refl,
+                              (32, refl, refl),
+                              ([], refl, (59, refl, refl), refl),
+                            ),
                           ),
                         ),
                       ),
@@ -118,9 +127,10 @@ hi_spelled_is = record {
           ),
         ),
       ),
-    ),
-  );
+    );
+    same = refl;
+  };
   texts = codes "hi" ∷ [];
-  parsed = (inr refl, refl);
+  parsed = ((refl, refl), refl);
   tree = bare_writes (codes "hi" ∷ []);
 }

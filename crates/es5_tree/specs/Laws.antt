@@ -1,15 +1,18 @@
 -- Laws of the definitions.
-use Rattle.std.specs.Prelude.{◌≡◌, ℕ, ◌+◌, ◌<◌, ◌^◌, List, [], ◌∷◌, ◌++◌, codes}
+use Rattle.std.specs.Prelude.{◌≡◌, ◌⊎◌, ℕ, ◌+◌, ◌<◌, ◌^◌, List, [], ◌∷◌, ◌++◌, codes}
 use Rattle.std.specs.List.{AllByRecursion}
-use Rattle.opal_base.specs.Shown.{Ended, Going, Shows, ShowsInTurn}
+use Rattle.opal_base.specs.declared.place.Pos.{Pos}
+use Rattle.opal_base.specs.Shown.{Shown, Ended, Going, Shows, ShowsInTurn}
 use Rattle.es5_tree.specs.declared.tree.Script.{Script}
 use Rattle.es5_tree.specs.declared.tree.EsStmt.TheVariants as stmt
 use Rattle.es5_tree.specs.declared.tree.EsKind.TheVariants as kind
 use Rattle.es5_tree.specs.State.{Text}
-use Rattle.es5_tree.specs.Run.{EsEnd, Finished, Uncaught, es_run}
+use Rattle.es5_tree.specs.Run.{EsEnd, Finished, Uncaught, Outside, es_run}
 use Rattle.es5_tree.specs.Tree.{bare, expr, writes}
 use Rattle.es5_tree.specs.Text.{text_of}
-use Rattle.es5_tree.specs.Spells.{EsSpells}
+use Rattle.es5_tree.specs.declared.token.EsToken.{EsToken}
+use Rattle.es5_tree.specs.Lexed.{LexesTo, NoTokenAt}
+use Rattle.es5_tree.specs.Spells.{Spells, EsSpells, IsEnded, NoFrontAt, IsNotScript}
 
 -- once a run has ended, more units change nothing
 abbrev pub MoreUnits : Type 0
@@ -23,9 +26,55 @@ OneEnd = (script : Script) (input : Text) (n m : ℕ) (output other : List ℕ) 
 abbrev pub OutputGrows : Type 0
 OutputGrows = (script : Script) (input : Text) (n k : ℕ) (output : List ℕ) → Shows (es_run script input n) output → (more : List ℕ) × Shows (es_run script input (n + k)) (output ++ more)
 
+-- the same ends but for the place where a run leaves the profile
+abbrev pub SameEnd : EsEnd → EsEnd → Type 0
+SameEnd Finished Finished = Unit {0}
+SameEnd (Uncaught name message) (Uncaught other text) = (name ≡ other) × (message ≡ text)
+SameEnd (Outside kind place) (Outside other there) = kind ≡ other
+SameEnd _ _ = ⊥
+
+abbrev pub SameShown : Shown EsEnd → Shown EsEnd → Type 0
+SameShown (Going output) (Going other) = output ≡ other
+SameShown (Ended output end) (Ended other last) = (output ≡ other) × SameEnd end last
+SameShown _ _ = ⊥
+
+-- sites and places change nothing of a run but that place
+abbrev pub SitesDontMatter : Type 0
+SitesDontMatter = (script other : Script) → bare script ≡ bare other → (input : Text) (n : ℕ) → SameShown (es_run script input n) (es_run other input n)
+
 -- but for sites and places, bytes spell one script at most
 abbrev pub OneScript : Type 0
 OneScript = (script other : Script) (bytes : List ℕ) → EsSpells script bytes → EsSpells other bytes → bare script ≡ bare other
+
+-- bytes have a list of tokens, or a first byte where none begins
+abbrev pub Lexed : List ℕ → Type 0
+Lexed bytes = ((tokens : List EsToken) × LexesTo bytes tokens) ⊎ ((offset : ℕ) × NoTokenAt bytes offset)
+
+abbrev pub TokensOrNone : Type 0
+TokensOrNone = (bytes : List ℕ) → Lexed bytes
+
+-- one list at most, one such byte at most, and never both
+pub record LexedOnce : Type 0 where
+  pub tokens : (bytes : List ℕ) (tokens others : List EsToken) → LexesTo bytes tokens → LexesTo bytes others → tokens ≡ others
+  pub offset : (bytes : List ℕ) (offset other : ℕ) → NoTokenAt bytes offset → NoTokenAt bytes other → offset ≡ other
+  pub apart : (bytes : List ℕ) (tokens : List EsToken) (offset : ℕ) → LexesTo bytes tokens → NoTokenAt bytes offset → ⊥
+
+-- tokens that end with their one end token spell a script, or have a first one that ends no front
+abbrev pub ScriptOrStop : Type 0
+ScriptOrStop = (tokens : List EsToken) → IsEnded tokens → ((script : Script) × Spells tokens script) ⊎ ((token : EsToken) × NoFrontAt tokens token)
+
+-- one such token at most, and never both
+pub record StopsOnce : Type 0 where
+  pub one : (tokens : List EsToken) (token other : EsToken) → NoFrontAt tokens token → NoFrontAt tokens other → token ≡ other
+  pub apart : (tokens : List EsToken) (script : Script) (token : EsToken) → Spells tokens script → NoFrontAt tokens token → ⊥
+
+-- bytes that spell a script have no place where they spell none
+abbrev pub NeverBoth : Type 0
+NeverBoth = (script : Script) (bytes : List ℕ) (pos : Pos) → EsSpells script bytes → IsNotScript bytes pos → ⊥
+
+-- and they have one such place at most
+abbrev pub OnePlace : Type 0
+OnePlace = (bytes : List ℕ) (pos other : Pos) → IsNotScript bytes pos → IsNotScript bytes other → pos ≡ other
 
 -- the printed text of a script that writes texts spells it
 abbrev pub TextSpells : Type 0

@@ -1,7 +1,9 @@
 pub mod Tree
 pub mod Text
 pub mod Tokens
+pub mod Lexed
 pub mod Spells
+pub mod Reading
 pub mod State
 pub mod Task
 pub mod Eval

@@ -1,20 +1,16 @@
 -- The lexical grammar of scripts (ECMA-262 5.1, section 7): the pieces that bytes are cut into.
 use Rattle.std.specs.Prelude.{◌≡◌, ℕ, zero, suc, ◌+◌, ◌-◌, ◌*◌, ◌==◌, ◌&&◌, ◌||◌, false, Bool, nat_le, nat_lt, List, [], ◌∷◌, ◌++◌, drop, Option, None, Some, if◌then◌else◌, take_while}
 use Rattle.std.specs.Option.{option_map, option_and_then}
+use Rattle.es5_tree.specs.declared.token.EsMark.{EsMark}
+use Rattle.es5_tree.specs.declared.token.EsMark.TheVariants.{Dot, OpenParen, CloseParen, Semicolon}
 
--- the signs of scripts (7.7)
-pub data Sign : Type 0 where
-  Dot : Sign
-  OpenParen : Sign
-  CloseParen : Sign
-  Semicolon : Sign
-
--- what a byte may begin
+-- what a byte may begin (the signs of 7.7 that are read as yet)
 pub data Class : Type 0 where
   Blank : Class
   Letter : Class
   Quote : Class
-  Punctuator : Sign → Class
+  Slash : Class
+  Punctuator : EsMark → Class
   Other : Class
 
 -- white space and line terminators (7.2, 7.3)
@@ -42,7 +38,42 @@ abbrev pub class_of : ℕ → Class
 class_of byte =
     if is_blank byte then Blank
     else (if is_letter byte then Letter
-    else (if (byte == 34) || (byte == 39) then Quote else sign_of byte))
+    else (if (byte == 34) || (byte == 39) then Quote
+    else (if byte == 47 then Slash else sign_of byte)))
+
+-- ---- comments (7.4), of ASCII characters alone
+
+-- line feed and carriage return (7.3)
+abbrev pub ends_line : ℕ → Bool
+ends_line byte = (byte == 10) || (byte == 13)
+
+abbrev pub is_star : ℕ → Bool
+is_star byte = byte == 42
+
+abbrev pub begins_with_slash : List ℕ → Bool
+begins_with_slash [] = false
+begins_with_slash (byte ∷ bytes) = byte == 47
+
+-- Where the line is over, before its terminator or at the end; n bytes are counted already.
+abbrev pub line_end : ℕ → List ℕ → Option ℕ
+line_end n [] = Some n
+line_end n (byte ∷ bytes) =
+    if ends_line byte then Some n
+    else (if nat_lt 127 byte then None else line_end (n + 1) bytes)
+
+-- where the next `*` and `/` are over
+abbrev pub block_end : ℕ → List ℕ → Option ℕ
+block_end n [] = None
+block_end n (byte ∷ bytes) =
+    if is_star byte && begins_with_slash bytes then Some (n + 2)
+    else (if nat_lt 127 byte then None else block_end (n + 1) bytes)
+
+-- how many bytes a comment has behind its first slash
+unfoldable pub comment_size : List ℕ → Option ℕ
+comment_size [] = None
+comment_size (byte ∷ bytes) =
+    if byte == 47 then line_end 1 bytes
+    else (if is_star byte then block_end 1 bytes else None)
 
 -- ---- string literals (7.8.4)
 
@@ -96,16 +127,18 @@ Characters quote (unit ∷ text) bytes rest = (n : ℕ) × (character quote byte
 
 -- ---- pieces
 
--- blanks between tokens, and tokens: names and reserved words, string literals with the text that they stand for, and signs
+-- blanks and comments between tokens, and tokens: names and reserved words, string literals with the text that they stand for, and signs
 pub data Form : Type 0 where
   Space : Form
+  Comment : Form
   Word : List ℕ → Form
   Str : List ℕ → Form
-  Mark : Sign → Form
+  Mark : EsMark → Form
 
 -- a piece of the form stands at the front of the bytes, and the rest is behind it
 abbrev pub Stands : Form → List ℕ → List ℕ → Type 0
 Stands Space bytes rest = (byte : ℕ) × (bytes ≡ byte ∷ rest) × (class_of byte ≡ Blank)
+Stands Comment bytes rest = (byte : ℕ) × (more : List ℕ) × (n : ℕ) × (bytes ≡ byte ∷ more) × (class_of byte ≡ Slash) × (comment_size more ≡ Some n) × (rest ≡ drop n more)
 Stands (Mark sign) bytes rest = (byte : ℕ) × (bytes ≡ byte ∷ rest) × (class_of byte ≡ Punctuator sign)
 Stands (Word name) bytes rest = (byte : ℕ) × (more : List ℕ) × (bytes ≡ byte ∷ more) × (class_of byte ≡ Letter) × (name ≡ byte ∷ take_while is_name_part more) × (bytes ≡ name ++ rest)
 Stands (Str text) bytes rest = (quote : ℕ) × (more : List ℕ) × (bytes ≡ quote ∷ more) × (class_of quote ≡ Quote) × Characters quote text more rest
@@ -114,19 +147,11 @@ pub record Piece : Type 0 where
   pub form : Form
   pub slice : List ℕ
 
+-- the pieces stand one after the other at the front of the bytes, and behind them is the rest
+abbrev pub Reaches : List ℕ → List Piece → List ℕ → Type 0
+Reaches bytes [] behind = bytes ≡ behind
+Reaches bytes (piece ∷ pieces) behind = (rest : List ℕ) × (bytes ≡ piece.slice ++ rest) × Stands piece.form bytes rest × Reaches rest pieces behind
+
 -- the bytes are the join of the pieces, each of which stands at its place
 abbrev pub Lexes : List ℕ → List Piece → Type 0
-Lexes bytes [] = bytes ≡ []
-Lexes bytes (piece ∷ pieces) = (rest : List ℕ) × (bytes ≡ piece.slice ++ rest) × Stands piece.form bytes rest × Lexes rest pieces
-
--- blanks are no tokens
-abbrev pub and_token : Form → Piece → List Piece → List Piece
-and_token Space piece tokens = tokens
-and_token (Word name) piece tokens = piece ∷ tokens
-and_token (Str text) piece tokens = piece ∷ tokens
-and_token (Mark sign) piece tokens = piece ∷ tokens
-
--- the pieces that are tokens
-abbrev pub tokens_of : List Piece → List Piece
-tokens_of [] = []
-tokens_of (piece ∷ pieces) = and_token piece.form piece (tokens_of pieces)
+Lexes bytes pieces = Reaches bytes pieces []

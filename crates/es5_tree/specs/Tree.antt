@@ -20,6 +20,13 @@ expr form = record { kind = form; origin = None; pos = start }
 abbrev pub write : List ℕ → EsStmt
 write text = stmt.Expr (expr (kind.Call (expr (kind.Member (expr (kind.Name (codes "$host"))) (codes "write"))) (expr (kind.Str text) ∷ [])))
 
+abbrev pub expr_at : Pos → EsKind → EsExpr
+expr_at pos form = record { kind = form; origin = None; pos = pos }
+
+-- the same statement with the places of its first token and of the text
+abbrev pub write_at : Pos → Pos → List ℕ → EsStmt
+write_at host literal text = stmt.Expr (expr_at host (kind.Call (expr_at host (kind.Member (expr_at host (kind.Name (codes "$host"))) (codes "write"))) (expr_at literal (kind.Str text) ∷ [])))
+
 -- the script that writes the texts one after the other
 abbrev pub writes : List (List ℕ) → Script
 writes texts = record { body = map write texts }

@@ -1,12 +1,37 @@
 //! Laws of the definitions, each the contract of a function that does nothing.
 
-ghost use Rattle.es5_tree.specs.Laws.{MoreUnits, OneEnd, OutputGrows, OneScript, TextSpells, WritesInTurn, HiPrinted, HiSpelled, HiRuns, HelloThrows};
+ghost use Rattle.es5_tree.specs.Laws.{MoreUnits, OneEnd, OutputGrows, SitesDontMatter, LexedOnce, NeverBoth, OnePlace, OneScript, ScriptOrStop, StopsOnce, TextSpells, TokensOrNone, WritesInTurn, HiPrinted, HiSpelled, HiRuns, HelloThrows};
 
 /// Once a run has ended, more units change nothing; so it has one end, and its output only grows.
 pub fn runs()
     ensures more_units { MoreUnits }
     ensures one_end { OneEnd }
     ensures output_grows { OutputGrows }
+{}
+
+/// Bytes have one list of tokens, or one first byte where no token, blank or comment begins, and
+/// never both.
+pub fn one_list_of_tokens()
+    ensures one { TokensOrNone }
+    ensures once { LexedOnce }
+{}
+
+/// Tokens that end with their one end token spell a script, or have one first token that ends no
+/// front, and never both.
+pub fn one_stop()
+    ensures script_or_stop { ScriptOrStop }
+    ensures once { StopsOnce }
+{}
+
+/// Bytes have one place at most where they spell no script, and none where they spell one.
+pub fn one_place()
+    ensures never_both { NeverBoth }
+    ensures one { OnePlace }
+{}
+
+/// Sites and places of a script change nothing of its runs but the place where one leaves the profile.
+pub fn sites_dont_matter()
+    ensures { SitesDontMatter }
 {}
 
 /// But for sites and places, bytes spell one script at most.

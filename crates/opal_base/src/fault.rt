@@ -16,3 +16,10 @@ pub enum FileFault {
     /// No memory was found.
     NoMemory,
 }
+
+/// Why a source was not read to its end.
+#[derive(Clone, Copy, Debug, PartialEq, Eq)]
+pub enum SourceFault {
+    Failed,
+    NoMemory,
+}

@@ -1,8 +1,9 @@
-ghost use Rattle.std.specs.Prelude.{◌≡◌, ℕ, List, IfOk, OnErr};
+ghost use Rattle.std.specs.Prelude.{◌≡◌, ℕ, ◌≤◌, ◌<◌, ◌^◌, List, length, IfOk, IfSome, IsErrOf, OnErr, []};
 ghost use Rattle.std.specs.declared.option.Option.{Option};
-ghost use Rattle.opal_base.specs.Outside.{HasCause, Delivers};
+ghost use Rattle.opal_base.specs.Outside.{HasCause, Delivers, Rose, preceded};
 
-use crate::fault::Failed;
+use crate::fault::{Failed, SourceFault};
+use std::alloc::Global;
 
 /// What gives bytes.
 pub trait Source {
@@ -18,4 +19,33 @@ pub trait Source {
         ensures delivers { IfOk result (Delivers (left self.old) (left self.new) buf.new) }
         ensures kept { OnErr result (left self.new ≡ left self.old) }
         ensures cause { HasCause (faults self.old) (faults self.new) result };
+}
+
+/// Reads a source to its end, or until it has given more than `most` bytes.
+pub fn read_all<S: Source>(
+    alloc: Global,
+    source: &mut S,
+    most: usize,
+) -> Result<Vec<u8>, SourceFault>
+    requires { most < 2 ^ 32 }
+    ensures read { IfOk result (λ bytes. S.left source.old ≡ preceded bytes.items (S.left source.new)) }
+    ensures ended { IfOk result (λ bytes. length bytes.items ≤ most → IfSome (S.left source.new) (λ rest. rest ≡ [])) }
+    ensures failed { IsErrOf result SourceFault.Failed → Rose (S.faults source.old) (S.faults source.new) }
+    ensures later { S.faults source.old ≤ S.faults source.new }
+{
+    let mut bytes = Vec::new(alloc);
+    let mut buffer = [0; 4096];
+    'chunks: while bytes.len() <= most {
+        let count = match source.read(&mut buffer) {
+            Ok(count) => count,
+            Err(_) => return Err(SourceFault::Failed),
+        };
+        if count == 0 {
+            return Ok(bytes);
+        }
+        if bytes.extend_from_slice(&buffer[..count]).is_err() {
+            return Err(SourceFault::NoMemory);
+        }
+    }
+    Ok(bytes)
 }

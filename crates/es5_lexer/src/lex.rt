@@ -1,0 +1,77 @@
+//! From bytes to tokens.
+
+ghost use Rattle.std.specs.Prelude.{◌≡◌, ◌+◌, ◌<◌, ◌≤◌, ◌^◌, ◌++◌, length, IfOk, IfErr, OnOk};
+ghost use Rattle.opal_base.specs.Place.{place_at};
+ghost use Rattle.es5_tree.specs.Lexed.{LexesTo, NoTokenPlace, StopsAt};
+ghost use Rattle.es5_lexer.specs.Pieces.{token_here};
+
+use crate::piece::next_piece;
+use es5_tree::{EsStop, EsToken, EsTokenKind, EsTokens};
+use opal_base::{NoMemory, Pos};
+use std::alloc::Global;
+
+/// The place of a byte, from the place of a byte before it.
+fn place_from(bytes: &[u8], from: usize, to: usize, mut pos: Pos) -> Pos
+    requires order { from ≤ to }
+    requires within { to ≤ length bytes.now }
+    requires short { length bytes.now < 2 ^ 31 }
+    requires at { pos ≡ place_at bytes.now from }
+    requires bound { pos.line + pos.col ≤ from }
+    ensures is { result ≡ place_at bytes.now to }
+    ensures bound { result.line + result.col ≤ to }
+{
+    for i in from..to {
+        if bytes[i] == 10 {
+            pos.line += 1;
+            pos.col = 0;
+        } else {
+            pos.col += 1;
+        }
+    }
+    pos
+}
+
+/// Puts the token of a piece at the end, if the piece is one.
+fn emit(
+    tokens: &mut EsTokens,
+    kind: Option<EsTokenKind>,
+    from: usize,
+    size: usize,
+    pos: Pos,
+) -> Result<(), NoMemory>
+    requires { from + size < 2 ^ 31 }
+    ensures { OnOk result (tokens.new ≡ tokens.old ++ token_here pos from size kind) }
+{
+    match kind {
+        Some(kind) => tokens.push(EsToken {
+            kind,
+            from: from as u32,
+            to: (from + size) as u32,
+            pos,
+        }),
+        None => Ok(()),
+    }
+}
+
+/// The tokens of bytes, with one token for their end behind them; or the place, counted from 0, of
+/// the first byte at which a token, blank or comment would have to begin and none does.
+pub fn es_lex(alloc: Global, bytes: &[u8]) -> Result<EsTokens, EsStop>
+    requires { length bytes.now < 2 ^ 31 }
+    ensures tokens { IfOk result (λ tokens. LexesTo bytes.now tokens) }
+    ensures few { IfOk result (λ tokens. length tokens ≤ length bytes.now + 1) }
+    ensures not_script { IfErr result (λ stop. StopsAt (NoTokenPlace bytes.now) stop) }
+{
+    let mut tokens = EsTokens::new(alloc);
+    let mut at = 0;
+    let mut pos = Pos { line: 0, col: 0 };
+    'pieces: while at < bytes.len() {
+        let Some(piece) = next_piece(alloc, &bytes[at..])? else {
+            return Err(EsStop::NotScript { pos });
+        };
+        emit(&mut tokens, piece.kind, at, piece.size, pos)?;
+        pos = place_from(bytes, at, at + piece.size, pos);
+        at += piece.size;
+    }
+    emit(&mut tokens, Some(EsTokenKind::End), at, 0, pos)?;
+    Ok(tokens)
+}

@@ -1,0 +1,13 @@
+//! The tokens of scripts (ECMA-262 5.1, section 7).
+#![tactic(auto)]
+
+mod class;
+mod comment;
+mod escape;
+mod lex;
+mod literal;
+mod piece;
+#[cfg(test)]
+mod tests;
+
+pub use lex::es_lex;

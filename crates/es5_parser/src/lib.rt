@@ -1,0 +1,9 @@
+//! Scripts from their tokens (ECMA-262 5.1, sections 11 to 14, as far as the profile goes by now).
+#![tactic(auto)]
+
+mod cursor;
+mod parse;
+#[cfg(test)]
+mod tests;
+
+pub use parse::{es_parse, read_script};

@@ -1,0 +1,55 @@
+-- The tokens of bytes, and the first byte where none begins (ECMA-262 5.1, section 7).
+use Rattle.std.specs.Prelude.{◌≡◌, ℕ, ◌+◌, ◌<◌, List, [], ◌∷◌, ◌++◌, length, Option, None, Some}
+use Rattle.opal_base.specs.Place.{place_at}
+use Rattle.opal_base.specs.declared.place.Pos.{Pos}
+use Rattle.es5_tree.specs.declared.token.EsStop.{EsStop}
+use Rattle.es5_tree.specs.declared.token.EsStop.TheVariants.{NoMemory, NotScript}
+use Rattle.es5_tree.specs.declared.token.EsToken.{EsToken}
+use Rattle.es5_tree.specs.declared.token.EsTokenKind.{EsTokenKind}
+use Rattle.es5_tree.specs.declared.token.EsTokenKind.TheVariants as kind
+use Rattle.es5_tree.specs.Tokens.{Form, Space, Comment, Word, Str, Mark, Stands, Piece, Reaches, Lexes}
+
+-- blanks and comments are no tokens
+abbrev pub kind_of : Form → Option EsTokenKind
+kind_of Space = None
+kind_of Comment = None
+kind_of (Word name) = Some (kind.Word name)
+kind_of (Str text) = Some (kind.Str text)
+kind_of (Mark mark) = Some (kind.Mark mark)
+
+-- A token of so many bytes; its place counts lines and columns from 0, and only a line feed ends a line.
+abbrev pub token_at : List ℕ → ℕ → ℕ → EsTokenKind → EsToken
+token_at bytes from size kind = record { kind = kind; from = from; to = from + size; pos = place_at bytes from }
+
+abbrev pub token_if : List ℕ → ℕ → ℕ → Option EsTokenKind → List EsToken
+token_if bytes from size None = []
+token_if bytes from size (Some kind) = token_at bytes from size kind ∷ []
+
+-- the tokens of pieces that begin at a byte
+abbrev pub tokens_from : List ℕ → ℕ → List Piece → List EsToken
+tokens_from bytes from [] = []
+tokens_from bytes from (piece ∷ pieces) = token_if bytes from (length piece.slice) (kind_of piece.form) ++ tokens_from bytes (from + length piece.slice) pieces
+
+-- the bytes are cut into pieces, whose tokens these are, with the end token behind them
+pub record LexesTo (bytes : List ℕ) (tokens : List EsToken) : Type 0 where
+  pub pieces : List Piece
+  pub lexed : Lexes bytes pieces
+  pub same : tokens ≡ tokens_from bytes 0 pieces ++ token_at bytes (length bytes) 0 kind.End ∷ []
+
+-- pieces stand up to the byte at the offset, and at that byte none stands
+pub record NoTokenAt (bytes : List ℕ) (offset : ℕ) : Type 0 where
+  pub pieces : List Piece
+  pub rest : List ℕ
+  pub reached : Reaches bytes pieces rest
+  pub some : 0 < length rest
+  pub none : (form : Form) (behind : List ℕ) → Stands form rest behind → ⊥
+  pub place : offset + length rest ≡ length bytes
+
+-- the place of such a byte
+abbrev pub NoTokenPlace : List ℕ → Pos → Type 0
+NoTokenPlace bytes pos = (offset : ℕ) × NoTokenAt bytes offset × (pos ≡ place_at bytes offset)
+
+-- memory ran out, or the place is one of these
+abbrev pub StopsAt : (Pos → Type 0) → EsStop → Type 0
+StopsAt P NoMemory = Unit {0}
+StopsAt P (NotScript pos) = P pos
