@@ -4,7 +4,7 @@ ghost use Rattle.std.specs.Prelude.{◌≡◌, ◌<◌, ◌^◌, [], ◌∷◌, 
 ghost use Rattle.es5_tree.specs.declared.tree.EsKind.TheVariants as form;
 ghost use Rattle.es5_tree.specs.Lexed.{StopsAt};
 ghost use Rattle.es5_tree.specs.Tree.{expr_at, write_at};
-ghost use Rattle.es5_tree.specs.Spells.{EsSpells, IsEnded, IsNotScript, NoFrontPos, Spells};
+ghost use Rattle.es5_tree.specs.Spells.{IsEnded, IsNotScript, NoFrontPos, Reads, Spells};
 ghost use Rattle.es5_tree.specs.Reading as spec;
 ghost use Rattle.es5_parser.specs.Ahead.{Statement, StopsFrom, is_end};
 
@@ -104,12 +104,12 @@ pub fn es_parse(alloc: Global, tokens: &EsTokens) -> Result<Script, EsStop>
     Ok(Script { body })
 }
 
-/// The script that bytes spell; or the place, counted from 0, of the first byte at which a token,
+/// The script that bytes spell, each expression at the place of its first token; or the place, counted from 0, of the first byte at which a token,
 /// blank or comment would have to begin and none does, and where there is none, of the first token
 /// such that no script begins with the tokens up to and with it.
 pub fn read_script(alloc: Global, bytes: &[u8]) -> Result<Script, EsStop>
     requires { length bytes.now < 2 ^ 31 }
-    ensures script { IfOk result (λ script. EsSpells script bytes.now) }
+    ensures script { IfOk result (Reads bytes.now) }
     ensures not_script { IfErr result (λ stop. StopsAt (IsNotScript bytes.now) stop) }
 {
     let tokens = es_lex(alloc, bytes)?;

@@ -1,5 +1,5 @@
 -- Laws of the definitions.
-use Rattle.std.specs.Prelude.{◌≡◌, ◌⊎◌, ℕ, ◌+◌, ◌<◌, ◌^◌, List, [], ◌∷◌, ◌++◌, codes}
+use Rattle.std.specs.Prelude.{◌≡◌, ◌⊎◌, ℕ, ◌+◌, ◌<◌, ◌≤◌, ◌^◌, List, [], ◌∷◌, ◌++◌, codes}
 use Rattle.std.specs.List.{AllByRecursion}
 use Rattle.opal_base.specs.declared.place.Pos.{Pos}
 use Rattle.opal_base.specs.Shown.{Shown, Ended, Going, Shows, ShowsInTurn}
@@ -7,12 +7,12 @@ use Rattle.es5_tree.specs.declared.tree.Script.{Script}
 use Rattle.es5_tree.specs.declared.tree.EsStmt.TheVariants as stmt
 use Rattle.es5_tree.specs.declared.tree.EsKind.TheVariants as kind
 use Rattle.es5_tree.specs.State.{Text}
-use Rattle.es5_tree.specs.Run.{EsEnd, Finished, Uncaught, Outside, es_run}
+use Rattle.es5_tree.specs.Run.{EsEnd, Finished, Uncaught, Outside, es_run, cells_at}
 use Rattle.es5_tree.specs.Tree.{bare, expr, writes}
 use Rattle.es5_tree.specs.Text.{text_of}
 use Rattle.es5_tree.specs.declared.token.EsToken.{EsToken}
 use Rattle.es5_tree.specs.Lexed.{LexesTo, NoTokenAt}
-use Rattle.es5_tree.specs.Spells.{Spells, EsSpells, IsEnded, NoFrontAt, IsNotScript}
+use Rattle.es5_tree.specs.Spells.{Spells, Reads, EsSpells, IsEnded, NoFrontAt, IsNotScript}
 
 -- once a run has ended, more units change nothing
 abbrev pub MoreUnits : Type 0
@@ -25,6 +25,10 @@ OneEnd = (script : Script) (input : Text) (n m : ℕ) (output other : List ℕ) 
 -- with more units the output only grows
 abbrev pub OutputGrows : Type 0
 OutputGrows = (script : Script) (input : Text) (n k : ℕ) (output : List ℕ) → Shows (es_run script input n) output → (more : List ℕ) × Shows (es_run script input (n + k)) (output ++ more)
+
+-- with more units no fewer cells are made
+abbrev pub CellsGrow : Type 0
+CellsGrow = (script : Script) (input : Text) (n k : ℕ) → cells_at script input n ≤ cells_at script input (n + k)
 
 -- the same ends but for the place where a run leaves the profile
 abbrev pub SameEnd : EsEnd → EsEnd → Type 0
@@ -45,6 +49,14 @@ SitesDontMatter = (script other : Script) → bare script ≡ bare other → (in
 -- but for sites and places, bytes spell one script at most
 abbrev pub OneScript : Type 0
 OneScript = (script other : Script) (bytes : List ℕ) → EsSpells script bytes → EsSpells other bytes → bare script ≡ bare other
+
+-- with their places too, bytes spell one script at most
+abbrev pub OneRead : Type 0
+OneRead = (bytes : List ℕ) (script other : Script) → Reads bytes script → Reads bytes other → script ≡ other
+
+-- what bytes spell with its places they spell
+abbrev pub ReadSpells : Type 0
+ReadSpells = (bytes : List ℕ) (script : Script) → Reads bytes script → EsSpells script bytes
 
 -- bytes have a list of tokens, or a first byte where none begins
 abbrev pub Lexed : List ℕ → Type 0

@@ -3,7 +3,7 @@ use Rattle.std.specs.Prelude.{ℕ, [], ◌∷◌, Option, Some, None, codes}
 use Rattle.opal_base.specs.declared.place.Pos.{Pos}
 use Rattle.opal_base.specs.Shown.{Shown, Ended, Going, output_of}
 use Rattle.es5_tree.specs.declared.tree.Script.{Script}
-use Rattle.es5_tree.specs.State.{Text, Val, Undefined, Str, Obj, Cell, State, find_own, cell_at, first_state, global_record}
+use Rattle.es5_tree.specs.State.{Text, Val, Undefined, Str, Obj, Cell, World, State, find_own, cell_at, first_state, global_record}
 use Rattle.es5_tree.specs.Task.{OutKind, Outcome, Gives, Throwing, Left, Starved, run}
 use Rattle.es5_tree.specs.Eval.{Completion, Scope, all, exec_to}
 
@@ -39,3 +39,13 @@ global_scope = record { this = Undefined; records = global_record ∷ [] }
 -- A node takes a unit as it begins, so that with n units no more than n nodes are nested.
 unfoldable pub es_run : Script → Text → ℕ → Shown EsEnd
 es_run script input n = shown (run (all (exec_to n) script.body global_scope) (first_state input) n)
+
+abbrev pub world_of : Outcome Completion → World
+world_of (Gives c s g) = s.world
+world_of (Throwing v s g) = s.world
+world_of (Left k p s g) = s.world
+world_of (Starved s) = s.world
+
+-- the number of cells that a script makes with n units
+abbrev pub cells_at : Script → Text → ℕ → ℕ
+cells_at script input n = (world_of (run (all (exec_to n) script.body global_scope) (first_state input) n)).made

@@ -48,6 +48,12 @@ pub record Spells (tokens : List EsToken) (script : Script) : Type 0 where
   pub parsed : Writes tokens texts
   pub tree : script ≡ record { body = body_of (drop 2 tokens) texts }
 
+-- The tokens of the bytes spell the script, its places with it.
+pub record Reads (bytes : List ℕ) (script : Script) : Type 0 where
+  pub tokens : List EsToken
+  pub lexed : LexesTo bytes tokens
+  pub spells : Spells tokens script
+
 -- The bytes spell the script; sites and places play no part.
 pub record EsSpells (script : Script) (bytes : List ℕ) : Type 0 where
   pub tokens : List EsToken

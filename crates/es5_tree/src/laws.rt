@@ -1,12 +1,17 @@
 //! Laws of the definitions, each the contract of a function that does nothing.
 
-ghost use Rattle.es5_tree.specs.Laws.{MoreUnits, OneEnd, OutputGrows, SitesDontMatter, LexedOnce, NeverBoth, OnePlace, OneScript, ScriptOrStop, StopsOnce, TextSpells, TokensOrNone, WritesInTurn, HiPrinted, HiSpelled, HiRuns, HelloThrows};
+ghost use Rattle.es5_tree.specs.Laws.{MoreUnits, OneEnd, OutputGrows, SitesDontMatter, CellsGrow, LexedOnce, NeverBoth, OnePlace, OneRead, OneScript, ReadSpells, ScriptOrStop, StopsOnce, TextSpells, TokensOrNone, WritesInTurn, HiPrinted, HiSpelled, HiRuns, HelloThrows};
 
 /// Once a run has ended, more units change nothing; so it has one end, and its output only grows.
 pub fn runs()
     ensures more_units { MoreUnits }
     ensures one_end { OneEnd }
     ensures output_grows { OutputGrows }
+{}
+
+/// With more units a script makes no fewer cells.
+pub fn cells_grow()
+    ensures { CellsGrow }
 {}
 
 /// Bytes have one list of tokens, or one first byte where no token, blank or comment begins, and
@@ -37,6 +42,12 @@ pub fn sites_dont_matter()
 /// But for sites and places, bytes spell one script at most.
 pub fn one_script()
     ensures { OneScript }
+{}
+
+/// With its places too, bytes spell one script at most, and they spell it.
+pub fn one_read()
+    ensures one { OneRead }
+    ensures spells { ReadSpells }
 {}
 
 /// The printed text of a script that writes texts spells it.

@@ -9,7 +9,7 @@ use Rattle.std.proofs.Math.Utf8.{scalar, scalars, scalar_cases}
 use Rattle.std.proofs.lemmas.Bool.{and_parts, cases_lt, lt-leb}
 use Rattle.std.proofs.lemmas.List.{map-id}
 use Rattle.std.proofs.lemmas.Str.{encodes-chars, scalars-chars, encodes_same, utf16_chars-nil, utf16_chars_lone, utf16_chars_pair}
-use Rattle.opal_base.specs.Laws.{OneText, TextPrintedBack, DecodedOrNot}
+use Rattle.opal_base.specs.Laws.{OneText, TextPrintedBack, DecodedOrNot, OneOffset}
 use Rattle.opal_base.specs.Text.{IsDecoded, utf8_of}
 
 -- The units of the characters that a text gave one after the other.
@@ -30,6 +30,12 @@ one_text_is bytes u v d e = sym d.in_utf16 ∙ ap (flat_map encode_utf16) (encod
 
 pub decoded_or_not_is : DecodedOrNot
 decoded_or_not_is bytes offset until units d = until.longest (length bytes) until.short (subst IsUtf8 (sym (take-length bytes)) (decoded_utf8 bytes units d))
+
+pub one_offset_is : OneOffset
+one_offset_is bytes m n p q = ⊎_elim
+    (λ less. absurd (p.longest n less q.front))
+    (λ not. ⊎_elim (λ less. absurd (q.longest m less p.front)) (λ too. omega arith) (cases_lt n m))
+    (cases_lt m n)
 
 -- ---- one character, between its units and the units behind them
 

@@ -18,6 +18,10 @@ TextPrintedBack = (bytes units : List ℕ) → IsDecoded bytes units → utf8_of
 abbrev pub DecodedOrNot : Type 0
 DecodedOrNot = (bytes : List ℕ) (offset : ℕ) → IsValidUpTo bytes offset → (units : List ℕ) → IsDecoded bytes units → ⊥
 
+-- Bytes are UTF-8 up to one offset at most.
+abbrev pub OneOffset : Type 0
+OneOffset = (bytes : List ℕ) (offset other : ℕ) → IsValidUpTo bytes offset → IsValidUpTo bytes other → offset ≡ other
+
 -- A decoded text has no more units than bytes, and its units have 16 bits.
 pub record IsFitting (bytes units : List ℕ) : Type 0 where
   pub shorter : length units ≤ length bytes

@@ -1,6 +1,6 @@
 //! Laws of the definitions that the contracts cite.
 
-ghost use Rattle.opal_base.specs.Laws.{OneText, TextPrintedBack, DecodedOrNot, DecodedFits, PlacesBegin, PlacesGoOn};
+ghost use Rattle.opal_base.specs.Laws.{OneText, TextPrintedBack, DecodedOrNot, OneOffset, DecodedFits, PlacesBegin, PlacesGoOn};
 
 /// Bytes are the UTF-8 of one text at most.
 pub fn one_text()
@@ -15,6 +15,11 @@ pub fn text_printed_back()
 /// Bytes that are UTF-8 only up to an offset are the UTF-8 of no text.
 pub fn decoded_or_not()
     ensures { DecodedOrNot }
+{}
+
+/// Bytes that are UTF-8 only up to an offset are so up to this one alone.
+pub fn one_offset()
+    ensures { OneOffset }
 {}
 
 /// A decoded text has no more units than bytes, and its units have 16 bits.

@@ -19,7 +19,9 @@ mod utf8;
 pub use bytes::Bytes;
 pub use fault::{Failed, FileFault, NoMemory, SourceFault};
 pub use files::Files;
-pub use laws::{decoded_fits, decoded_or_not, one_text, places_go_on, text_printed_back};
+pub use laws::{
+    decoded_fits, decoded_or_not, one_offset, one_text, places_go_on, text_printed_back,
+};
 pub use memory::{MemFiles, MemSink, MemSource, NullSink, SureFiles, SureSource};
 pub use names::Names;
 pub use place::{Pos, Span, line_col};

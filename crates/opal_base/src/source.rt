@@ -1,4 +1,4 @@
-ghost use Rattle.std.specs.Prelude.{◌≡◌, ℕ, ◌≤◌, ◌<◌, ◌^◌, List, length, IfOk, IfSome, IsErrOf, OnErr, []};
+ghost use Rattle.std.specs.Prelude.{◌≡◌, ℕ, ◌+◌, ◌≤◌, ◌<◌, ◌^◌, List, length, IfOk, IfSome, IsErrOf, OnErr, []};
 ghost use Rattle.std.specs.declared.option.Option.{Option};
 ghost use Rattle.opal_base.specs.Outside.{HasCause, Delivers, Rose, preceded};
 
@@ -21,7 +21,7 @@ pub trait Source {
         ensures cause { HasCause (faults self.old) (faults self.new) result };
 }
 
-/// Reads a source to its end, or until it has given more than `most` bytes.
+/// Reads a source to its end, or until it has given one byte more than `most`.
 pub fn read_all<S: Source>(
     alloc: Global,
     source: &mut S,
@@ -30,13 +30,15 @@ pub fn read_all<S: Source>(
     requires { most < 2 ^ 32 }
     ensures read { IfOk result (λ bytes. S.left source.old ≡ preceded bytes.items (S.left source.new)) }
     ensures ended { IfOk result (λ bytes. length bytes.items ≤ most → IfSome (S.left source.new) (λ rest. rest ≡ [])) }
+    ensures bound { IfOk result (λ bytes. length bytes.items ≤ most + 1) }
     ensures failed { IsErrOf result SourceFault.Failed → Rose (S.faults source.old) (S.faults source.new) }
     ensures later { S.faults source.old ≤ S.faults source.new }
 {
     let mut bytes = Vec::new(alloc);
     let mut buffer = [0; 4096];
     'chunks: while bytes.len() <= most {
-        let count = match source.read(&mut buffer) {
+        let room = (most + 1 - bytes.len()).min(buffer.len());
+        let count = match source.read(&mut buffer[..room]) {
             Ok(count) => count,
             Err(_) => return Err(SourceFault::Failed),
         };

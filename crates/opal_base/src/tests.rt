@@ -184,6 +184,40 @@ fn reads(rt: HostRuntime) -> Result<(), Fail> {
     read_in_pairs(&rt, &mut StdSource::new(bytes), &to_end, bytes)
 }
 
+// Inputs of 0, 5 and 5000 bytes, read with a bound that they keep, reach or pass.
+#[test]
+fn reads_all(rt: HostRuntime) -> Result<(), Fail> {
+    for (len, most, read) in [
+        (0, 0, 0),
+        (5, 6, 5),
+        (5, 5, 5),
+        (5, 4, 5),
+        (5, 3, 4),
+        (5000, 4999, 5000),
+        (5000, 4095, 4096),
+        (5000, 9000, 5000),
+    ] {
+        let mut source = SureSource::new(rt.alloc(), vec![in rt.alloc(); 7; len]?);
+        assert_eq!(rt;
+            read_all(rt.alloc(), &mut source, most).map(|bytes| bytes.len()),
+            Ok(read)
+        );
+    }
+    for (call, answer) in [
+        (0, Err(SourceFault::Failed)),
+        (1, Err(SourceFault::Failed)),
+        (2, Ok(5)),
+    ] {
+        let bytes = vec![in rt.alloc(); 7; 5]?;
+        let mut source = MemSource::new(rt.alloc(), bytes, vec![in rt.alloc(); call]?);
+        assert_eq!(rt;
+            read_all(rt.alloc(), &mut source, 9).map(|bytes| bytes.len()),
+            answer
+        );
+    }
+    Ok(())
+}
+
 #[test]
 fn writes(rt: HostRuntime) -> Result<(), Fail> {
     let failing = vec![in rt.alloc(); 1]?;

@@ -3,12 +3,13 @@ use Rattle.std.proofs.Common.{◌≡◌, ◌≢◌, ◌⊎◌, ◌≤◌, ◌∙
 use Rattle.std.specs.Bool.{⊤}
 use mathlib.Core.Logic.{inl, inr}
 use Rattle.std.specs.declared.option.Option.{Option}
-use Rattle.opal_base.specs.Outside.{appended, Rose, TookFront}
+use Rattle.opal_base.specs.Outside.{appended, Rose, TookFront, FileMap, Missed}
 use Rattle.opal_base.proofs.Took.{appended_none}
-use Rattle.opal_cli.specs.Ends.{End, status_of, line_of, WriteFailed, OutOfMemory}
-use Rattle.opal_cli.specs.Answers.{TookFronts, SaidLine, CutLine, Reported}
+use Rattle.opal_cli.specs.Ends.{End, status_of, line_of, WriteFailed, OutOfMemory, MissingFile, IsAnswer}
+use Rattle.opal_cli.specs.Words.{Asked}
+use Rattle.opal_cli.specs.Answers.{TookFronts, SaidLine, CutLine, Reported, Answers, AnswersWith, AnswersAs, IsNamed, Says, IsRun}
 use Rattle.opal_cli.specs.declared.status.Status.{Status}
-use Rattle.opal_cli.specs.declared.status.Status.TheVariants.{Done, Usage, Refused, Missing, ReadFault, WriteFault, NoMemory}
+use Rattle.opal_cli.specs.declared.status.Status.TheVariants.{Done, Uncaught, Usage, Refused, Missing, ReadFault, WriteFault, Outside, OutOfSteps, CellsFull, NotScript, BadInput, NoMemory, TooLong}
 
 -- one line was tried, and where that failed the line of the fault
 pub tried : (old new : Option (List ℕ)) (before now : ℕ) (end said : End) (wanted status : Status) (line : List ℕ)
@@ -64,3 +65,58 @@ done_was old new before now end status r d = told_done r.told
     told_done : SaidLine old new r.said status ⊎ CutLine old new before now r.said status → status_of end ≡ Done
     told_done (inl line) = from_said r.said r.from (sym line.is ∙ d)
     told_done (inr line) = let f : WriteFault ≡ Done = sym line.is ∙ d in cc
+
+-- ---- what the status says of the outcome
+
+-- a status of a run that began is an answer
+pub is_answer : (status : Status) → IsRun status → IsAnswer status
+is_answer Done r = tt
+is_answer Uncaught r = tt
+is_answer Usage r = absurd r
+is_answer Refused r = absurd r
+is_answer Missing r = absurd r
+is_answer ReadFault r = absurd r
+is_answer WriteFault r = absurd r
+is_answer Outside r = tt
+is_answer OutOfSteps r = tt
+is_answer CellsFull r = tt
+is_answer NotScript r = absurd r
+is_answer BadInput r = absurd r
+is_answer NoMemory r = absurd r
+is_answer TooLong r = absurd r
+
+-- an answer that was told is that of the outcome
+pub answers_as : (files : FileMap) (input : Option (List ℕ)) (words : Option Asked) (out_old out_new old new : Option (List ℕ)) (before now : ℕ) (end : End) (status : Status)
+    → Reported old new before now end status → IsAnswer status → (IsAnswer (status_of end) → AnswersWith files input words end out_old out_new)
+    → AnswersAs files input words status out_old out_new
+answers_as files input words out_old out_new old new before now end status r a with_end = from_told r.told
+  where
+    from_said : (said : End) → (said ≡ end) ⊎ (said ≡ OutOfMemory) → status ≡ status_of said → AnswersAs files input words status out_old out_new
+    from_said said (inl e) s = let is : status ≡ status_of end = s ∙ ap status_of e in (end, with_end (subst IsAnswer is a), is)
+    from_said said (inr e) s = absurd (subst IsAnswer (s ∙ ap status_of e) a)
+
+    from_told : SaidLine old new r.said status ⊎ CutLine old new before now r.said status → AnswersAs files input words status out_old out_new
+    from_told (inl line) = from_said r.said r.from line.is
+    from_told (inr line) = absurd (subst IsAnswer line.is a)
+
+-- the line that was told names what is answered
+pub says : (files : Option FileMap) (input : Option (List ℕ)) (words : Option Asked) (missed : List ℕ) (out_old out_new old new : Option (List ℕ)) (before now tally_old tally_new : ℕ) (end : End) (status : Status)
+    → Reported old new before now end status
+    → ((map : FileMap) → files ≡ Some map → IsAnswer (status_of end) → AnswersWith map input words end out_old out_new)
+    → ((name : List ℕ) → end ≡ MissingFile name → Missed tally_old tally_new missed name)
+    → status ≢ WriteFault → Says files input words missed old new status
+says files input words missed out_old out_new old new before now tally_old tally_new end status r answers missing not_cut = from_told r.told
+  where
+    named : (said : End) → (said ≡ end) ⊎ (said ≡ OutOfMemory) → IsNamed files input words missed said
+    named said (inl e) = record {
+      answer = λ map told a. let w = answers map told (subst (λ x. IsAnswer (status_of x)) e a) in (w.0, subst (λ x. Answers map input words x w.0) (sym e) w.1);
+      missing = λ name is. (missing name (sym e ∙ is)).is_kept;
+    }
+    named said (inr e) = record {
+      answer = λ map told a. absurd (subst (λ x. IsAnswer (status_of x)) e a);
+      missing = λ name is. let f : OutOfMemory ≡ MissingFile name = sym e ∙ is in cc;
+    }
+
+    from_told : SaidLine old new r.said status ⊎ CutLine old new before now r.said status → Says files input words missed old new status
+    from_told (inl line) = record { end = r.said; is = line.is; names = named r.said r.from; line = line.line }
+    from_told (inr line) = absurd (not_cut line.is)

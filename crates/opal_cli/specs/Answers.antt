@@ -1,12 +1,13 @@
 -- What a call of the program answers, and what out and err take of it.
-use Rattle.std.specs.Prelude.{◌≡◌, ◌≢◌, ◌⊎◌, ◌≤◌, ℕ, List, [], length, take, None, Some}
+use Rattle.std.specs.Prelude.{◌≡◌, ◌≢◌, ◌⊎◌, ◌≤◌, ℕ, List, [], length, take, None, Some, ⊤}
 use Rattle.std.specs.declared.option.Option.{Option}
 use Rattle.opal_base.specs.Outside.{FileMap, Rose, appended, TookFront}
 use Rattle.ruby_meaning.specs.Load.{Loaded, Whole, Missing, Refused, Loads}
 use Rattle.es5_tree.specs.Text.{text_of}
 use Rattle.opal_cli.specs.declared.status.Status.{Status}
 use Rattle.opal_cli.specs.declared.status.Status.TheVariants as status
-use Rattle.opal_cli.specs.Words.{Asked, Compile}
+use Rattle.opal_cli.specs.Words.{Asked, Compile, Run, Exec}
+use Rattle.opal_cli.specs.Execution.{FileAnswers, ExecAnswers, TookFileFront, TookExecFront}
 use Rattle.opal_cli.specs.Translation.{script_of}
 use Rattle.opal_cli.specs.Headline.{Compiles}
 use Rattle.opal_cli.specs.Ends.{End, Wrote, Unread, RefusedAt, MissingFile, WriteFailed, OutOfMemory, status_of, line_of, IsAnswer}
@@ -18,33 +19,68 @@ end_of_load (Whole bundle) = Wrote
 end_of_load (Missing name) = MissingFile name
 end_of_load (Refused file pos construct) = RefusedAt file pos construct
 
--- over these files the words are answered so
-abbrev pub Answers : FileMap → Option Asked → End → Type 0
-Answers files None end = end ≡ Unread
-Answers files (Some (Compile file)) end = (loaded : Loaded) × Loads files file loaded × (end ≡ end_of_load loaded)
-
--- over these files the words are answered with this status
-abbrev pub AnswersAs : FileMap → Option Asked → Status → Type 0
-AnswersAs files words answer = (end : End) × Answers files words end × (answer ≡ status_of end)
-
 abbrev pub text_of_load : Loaded → List ℕ
 text_of_load (Whole bundle) = text_of (script_of bundle)
 text_of_load (Missing name) = []
 text_of_load (Refused file pos construct) = []
 
--- over these files compiling this one writes this text to out
-abbrev pub CompileWrites : FileMap → List ℕ → List ℕ → Type 0
-CompileWrites files file text = (loaded : Loaded) × Loads files file loaded × (text ≡ text_of_load loaded)
+-- over these files compiling this one ends so, with this text
+abbrev pub CompileAnswers : FileMap → List ℕ → End → List ℕ → Type 0
+CompileAnswers files file end output = (loaded : Loaded) × Loads files file loaded × (end ≡ end_of_load loaded) × (output ≡ text_of_load loaded)
+
+abbrev pub CompileWith : FileMap → List ℕ → End → Option (List ℕ) → Option (List ℕ) → Type 0
+CompileWith files file end old new = (output : List ℕ) × CompileAnswers files file end output × (new ≡ appended old output)
+
+-- over these files and this input the words are answered so, with this output
+abbrev pub Answers : FileMap → Option (List ℕ) → Option Asked → End → List ℕ → Type 0
+Answers files input None end output = (end ≡ Unread) × (output ≡ [])
+Answers files input (Some (Compile file)) end output = CompileAnswers files file end output
+Answers files input (Some (Run file budget)) end output = FileAnswers files input file budget end output
+Answers files input (Some (Exec file budget)) end output = ExecAnswers files input file budget end output
+
+-- this is the answer, and out took its output
+abbrev pub AnswersWith : FileMap → Option (List ℕ) → Option Asked → End → Option (List ℕ) → Option (List ℕ) → Type 0
+AnswersWith files input words end old new = (output : List ℕ) × Answers files input words end output × (new ≡ appended old output)
+
+-- the words are answered with this status
+abbrev pub AnswersAs : FileMap → Option (List ℕ) → Option Asked → Status → Option (List ℕ) → Option (List ℕ) → Type 0
+AnswersAs files input words answer old new = (end : End) × AnswersWith files input words end old new × (answer ≡ status_of end)
+
+-- out took a front of what compiling this file writes
+abbrev pub TookTextFront : FileMap → List ℕ → Option (List ℕ) → Option (List ℕ) → Type 0
+TookTextFront files file old new = (loaded : Loaded) → Loads files file loaded → TookFront old new (text_of_load loaded)
 
 -- out took a front of what the answer to the words writes
-abbrev pub TookAnswerFront : FileMap → Option Asked → Option (List ℕ) → Option (List ℕ) → Type 0
-TookAnswerFront files None old new = new ≡ old
-TookAnswerFront files (Some (Compile file)) old new = (text : List ℕ) → CompileWrites files file text → TookFront old new text
+abbrev pub TookAnswerFront : FileMap → Option (List ℕ) → Option Asked → Option (List ℕ) → Option (List ℕ) → Type 0
+TookAnswerFront files input None old new = new ≡ old
+TookAnswerFront files input (Some (Compile file)) old new = TookTextFront files file old new
+TookAnswerFront files input (Some (Run file budget)) old new = TookFileFront files input file budget old new
+TookAnswerFront files input (Some (Exec file budget)) old new = TookExecFront files input file budget old new
 
 -- out took all that the words ask for
 abbrev pub TookJob : FileMap → Option Asked → Option (List ℕ) → Option (List ℕ) → Type 0
 TookJob files None old new = ⊥
 TookJob files (Some (Compile file)) old new = Compiles files file old new
+TookJob files (Some (Run file budget)) old new = ⊤
+TookJob files (Some (Exec file budget)) old new = ⊤
+
+-- ---- the input
+
+-- the words ask for a run
+abbrev pub AsksForRun : Option Asked → Type 0
+AsksForRun None = ⊥
+AsksForRun (Some (Compile file)) = ⊥
+AsksForRun (Some (Run file budget)) = ⊤
+AsksForRun (Some (Exec file budget)) = ⊤
+
+-- the statuses of a run that began
+abbrev pub IsRun : Status → Type 0
+IsRun status.Done = ⊤
+IsRun status.Uncaught = ⊤
+IsRun status.Outside = ⊤
+IsRun status.OutOfSteps = ⊤
+IsRun status.CellsFull = ⊤
+IsRun _ = ⊥
 
 -- ---- the line on err
 
@@ -71,19 +107,19 @@ pub record Reported (old new : Option (List ℕ)) (before now : ℕ) (end : End)
   pub told : SaidLine old new said answer ⊎ CutLine old new before now said answer
 
 -- an end names what the told files answer to the words, and a missing file is the one that the files keep
-pub record IsNamed (files : Option FileMap) (words : Option Asked) (missed : List ℕ) (end : End) : Type 0 where
-  pub answer : (map : FileMap) → files ≡ Some map → IsAnswer (status_of end) → Answers map words end
+pub record IsNamed (files : Option FileMap) (input : Option (List ℕ)) (words : Option Asked) (missed : List ℕ) (end : End) : Type 0 where
+  pub answer : (map : FileMap) → files ≡ Some map → IsAnswer (status_of end) → (output : List ℕ) × Answers map input words end output
   pub missing : (name : List ℕ) → end ≡ MissingFile name → missed ≡ name
 
 -- err took exactly the line of the status
-pub record Says (files : Option FileMap) (words : Option Asked) (missed : List ℕ) (old new : Option (List ℕ)) (answer : Status) : Type 0 where
+pub record Says (files : Option FileMap) (input : Option (List ℕ)) (words : Option Asked) (missed : List ℕ) (old new : Option (List ℕ)) (answer : Status) : Type 0 where
   pub end : End
   pub is : answer ≡ status_of end
-  pub names : IsNamed files words missed end
+  pub names : IsNamed files input words missed end
   pub line : new ≡ appended old (line_of end)
 
 -- err took a front of the line that the call would have had, and then a front of the line of the fault
-pub record SaysCut (files : Option FileMap) (words : Option Asked) (missed : List ℕ) (old new : Option (List ℕ)) : Type 0 where
+pub record SaysCut (files : Option FileMap) (input : Option (List ℕ)) (words : Option Asked) (missed : List ℕ) (old new : Option (List ℕ)) : Type 0 where
   pub end : End
-  pub names : IsNamed files words missed end
+  pub names : IsNamed files input words missed end
   pub cut : TookFronts old new (line_of end) (line_of WriteFailed)

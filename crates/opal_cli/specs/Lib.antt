@@ -4,6 +4,7 @@ pub mod Translation
 pub mod Agree
 pub mod Ends
 pub mod Headline
+pub mod Execution
 pub mod Answers
 pub mod Loading
 pub mod Laws

@@ -4,11 +4,10 @@ ghost use Rattle.ruby_meaning.specs.Load.{IsSound};
 ghost use Rattle.es5_tree.specs.Spells.{EsSpells};
 ghost use Rattle.es5_tree.specs.Text.{text_of};
 ghost use Rattle.opal_cli.specs.Agree.{Agree};
-ghost use Rattle.opal_cli.specs.Words as asked;
 ghost use Rattle.opal_cli.specs.Translation.{script_of};
 ghost use Rattle.opal_cli.specs.Ends.{status_of, end_of, MissingFile, IsAnswer, IsSilent};
 ghost use Rattle.opal_cli.specs.Loading.{end_of_fault};
-ghost use Rattle.opal_cli.specs.Answers.{Answers, TookAnswerFront};
+ghost use Rattle.opal_cli.specs.Answers.{CompileWith, TookTextFront};
 ghost use Rattle.opal_cli.specs.Headline.{Compiles};
 
 use crate::load::{LoadFault, load};
@@ -31,7 +30,7 @@ pub fn compile<'a, F: Files, O: Sink>(
     ensures headline { (map : FileMap) → F.told files.old ≡ Some map → status_of (end_of result) ≡ Status.Done
         → Compiles map file.now (O.told out.old) (O.told out.new) }
     ensures answer { (map : FileMap) → F.told files.old ≡ Some map → IsAnswer (status_of (end_of result))
-        → Answers map (Some (asked.Compile file.now)) (end_of result) }
+        → CompileWith map file.now (end_of result) (O.told out.old) (O.told out.new) }
     ensures not_usage { status_of (end_of result) ≢ Status.Usage }
     ensures missing { (name : List ℕ) → end_of result ≡ MissingFile name → Missed (F.tally files.old) (F.tally files.new) (F.missed files.new) name }
     ensures read { status_of (end_of result) ≡ Status.ReadFault → Rose (F.faults files.old) (F.faults files.new) }
@@ -40,7 +39,7 @@ pub fn compile<'a, F: Files, O: Sink>(
     // What out took.
     ensures silent { IsSilent (status_of (end_of result)) → O.told out.new ≡ O.told out.old }
     ensures front { (map : FileMap) → F.told files.old ≡ Some map
-        → TookAnswerFront map (Some (asked.Compile file.now)) (O.told out.old) (O.told out.new) }
+        → TookTextFront map file.now (O.told out.old) (O.told out.new) }
 
     ensures later_files { F.faults files.old ≤ F.faults files.new }
     ensures later_tally { F.tally files.old ≤ F.tally files.new }
@@ -62,7 +61,7 @@ pub fn compile<'a, F: Files, O: Sink>(
 }
 
 // The outcome where the main file doesn't load.
-fn unloaded(file: &str, fault: LoadFault) -> Outcome<'_>
+pub fn unloaded(file: &str, fault: LoadFault) -> Outcome<'_>
     ensures { end_of result ≡ end_of_fault file.now fault }
 {
     match fault {
@@ -74,7 +73,7 @@ fn unloaded(file: &str, fault: LoadFault) -> Outcome<'_>
 }
 
 // The text of a bundle's script.
-fn script_text(alloc: Global, bundle: &Bundle) -> Result<Bytes, NoMemory>
+pub fn script_text(alloc: Global, bundle: &Bundle) -> Result<Bytes, NoMemory>
     requires { IsSound bundle.now }
     ensures text { IfOk result (λ text. text ≡ text_of (script_of bundle.now)) }
     ensures agrees { IfOk result (λ text. Agree bundle.now (script_of bundle.now)) }

@@ -3,19 +3,24 @@
 
 mod call;
 mod compile;
+mod exec;
+mod execute;
+mod input;
 mod laws;
 mod load;
 mod outcome;
 mod print;
 mod report;
+mod run;
+mod script;
 mod status;
 mod translate;
 mod words;
 
 pub use call::opal;
-pub use laws::agreement;
+pub use laws::{agreement, one_answer};
 pub use status::Status;
-pub use words::{Command, read_words};
+pub use words::{Budget, Command, read_words};
 
 #[cfg(test)]
 mod tests;

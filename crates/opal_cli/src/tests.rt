@@ -1,7 +1,9 @@
 use crate::call::opal;
+use crate::input::{InputFault, read_input};
+use crate::script::{ScriptFault, script_of};
 use crate::status::Status;
 use crate::words::{Command, read_words};
-use opal_base::{MemFiles, MemSink, SureSource};
+use opal_base::{MemFiles, MemSink, MemSource, Pos, SureSource};
 use std::test::Fail;
 
 const USAGE: &[u8] =
@@ -12,7 +14,9 @@ const USAGE: &[u8] =
 struct Call<'a> {
     words: &'a [&'a str],
     file: &'a [u8],
+    input: &'a [u8],
     files_fail: &'a [u64],
+    input_fails: &'a [u64],
     out_most: usize,
     out_fails: &'a [u64],
     err_fails: &'a [u64],
@@ -23,18 +27,20 @@ impl<'a> Call<'a> {
         Call {
             words,
             file,
+            input: b"",
             files_fail: &[],
+            input_fails: &[],
             out_most: 4096,
             out_fails: &[],
             err_fails: &[],
         }
     }
 
-    // The status, and what out and err took. The file lies under `main.rb` and `dir/main.rb`.
+    // The status, and what out and err took. The file lies under `main.rb`, `dir/main.rb` and `x.js`.
     fn ran(&self, rt: &HostRuntime) -> Result<(Status, Vec<u8>, Vec<u8>), Fail> {
         let alloc = rt.alloc();
         let mut files = MemFiles::new(alloc, self.files_fail.to_vec(alloc)?);
-        for name in ["main.rb", "dir/main.rb"] {
+        for name in ["main.rb", "dir/main.rb", "x.js"] {
             if files
                 .insert(name.to_string(alloc)?, self.file.to_vec(alloc)?)
                 .is_err()
@@ -46,7 +52,11 @@ impl<'a> Call<'a> {
         for word in self.words {
             words.push(word.to_string(alloc)?)?;
         }
-        let mut input = SureSource::new(alloc, Vec::new(alloc));
+        let mut input = MemSource::new(
+            alloc,
+            self.input.to_vec(alloc)?,
+            self.input_fails.to_vec(alloc)?,
+        );
         let mut out = MemSink::new(alloc, self.out_most.max(1), self.out_fails.to_vec(alloc)?);
         let mut err = MemSink::new(alloc, 3, self.err_fails.to_vec(alloc)?);
         let status = opal(alloc, &words, &mut files, &mut input, &mut out, &mut err);
@@ -125,7 +135,7 @@ fn refusals_name_their_place(rt: HostRuntime) -> Result<(), Fail> {
 
 #[test]
 fn words_without_a_reading_are_usage(rt: HostRuntime) -> Result<(), Fail> {
-    let cases: [&[&str]; 8] = [
+    let cases: [&[&str]; 19] = [
         &[],
         &["compile"],
         &["compile", ""],
@@ -134,6 +144,17 @@ fn words_without_a_reading_are_usage(rt: HostRuntime) -> Result<(), Fail> {
         &["Compile", "main.rb"],
         &["map", "main.rb"],
         &["main.rb"],
+        &["compile", "main.rb", "--steps", "5"],
+        &["run"],
+        &["run", "-x.js"],
+        &["run", "x.js", "--steps"],
+        &["run", "x.js", "--steps", "05"],
+        &["run", "x.js", "--steps", "1000000001"],
+        &["run", "x.js", "--cells", "999"],
+        &["run", "x.js", "--cells", "16777217"],
+        &["run", "x.js", "--steps", "5", "--steps", "5"],
+        &["exec", "main.rb", "--cells", "1000", "--turns", "5"],
+        &["exec", "main.rb", "--cells", "1000", "--steps", "5", "x"],
     ];
     for words in cases {
         let (status, out, err) = Call::of(words, b"puts 'a'").ran(&rt)?;
@@ -146,7 +167,7 @@ fn words_without_a_reading_are_usage(rt: HostRuntime) -> Result<(), Fail> {
     let words = vec![in alloc; "compile".to_string(alloc)?, "a b".to_string(alloc)?]?;
     let file = match read_words(&words) {
         Some(Command::Compile(file)) => file,
-        None => "",
+        _ => "",
     };
     assert_eq!(rt; file, "a b");
     Ok(())
@@ -235,5 +256,176 @@ fn the_longest_file_and_one_byte_more(rt: HostRuntime) -> Result<(), Fail> {
         err.as_slice(),
         b"main.rb:1:1: refused: FileTooLong\n".as_slice()
     );
+    Ok(())
+}
+
+/// A call, and its status and what out and err take of it.
+type Row<'a> = (&'a [&'a str], &'a [u8], &'a [u8], u8, &'a [u8], &'a [u8]);
+
+#[test]
+fn scripts_and_programs_are_run(rt: HostRuntime) -> Result<(), Fail> {
+    let writes_a: &[u8] = b"'use strict';$host.write(\"a\");";
+    let rows: [Row<'_>; 16] = [
+        (&["exec", "main.rb"], b"puts 'hi'", b"", 0, b"hi\n", b""),
+        (&["exec", "main.rb"], b"", b"", 0, b"", b""),
+        (
+            &["exec", "main.rb"],
+            b"puts 'a'\nputs '\xf0\x9f\x98\x80\xc3\xa9'\n",
+            b"\xc3\xa9\n",
+            0,
+            b"a\n\xf0\x9f\x98\x80\xc3\xa9\n",
+            b"",
+        ),
+        (
+            &["run", "x.js", "--steps", "5"],
+            writes_a,
+            b"",
+            0,
+            b"a",
+            b"",
+        ),
+        (
+            &["run", "x.js", "--steps", "4"],
+            writes_a,
+            b"",
+            8,
+            b"",
+            b"out of steps: 4\n",
+        ),
+        (
+            &["run", "x.js", "--steps", "0"],
+            b"'use strict';",
+            b"",
+            0,
+            b"",
+            b"",
+        ),
+        (
+            &["run", "x.js", "--cells", "1000", "--steps", "9"],
+            b"\"use strict\"; // two\n$host /* of */ .write('\\x41\\u00e9');\n$host.write('b');",
+            b"",
+            8,
+            b"A\xc3\xa9",
+            b"out of steps: 9\n",
+        ),
+        (
+            &["exec", "main.rb", "--steps", "6", "--cells", "16777216"],
+            b"puts 'a'\nputs 'b'",
+            b"",
+            8,
+            b"a\n",
+            b"out of steps: 6\n",
+        ),
+        (
+            &["run", "x.js"],
+            b"'use strict'",
+            b"\xff",
+            10,
+            b"",
+            b"x.js:1:13: not a script\n",
+        ),
+        (
+            &["run", "dir/main.rb"],
+            b"'use strict';\n  @",
+            b"",
+            10,
+            b"",
+            b"dir/main.rb:2:3: not a script\n",
+        ),
+        (
+            &["run", "x.js"],
+            b"'use strict';\n$host.write(\"a\")",
+            b"",
+            10,
+            b"",
+            b"x.js:2:17: not a script\n",
+        ),
+        (&["run", "y.js"], b"", b"\xff", 4, b"", b"missing: y.js\n"),
+        (
+            &["exec", "main.rb"],
+            b"puts 'a'",
+            b"\xff",
+            11,
+            b"",
+            b"bad input at 0\n",
+        ),
+        (
+            &["run", "x.js"],
+            writes_a,
+            b"ab\xc3\xa9\xe2\x82",
+            11,
+            b"",
+            b"bad input at 4\n",
+        ),
+        (
+            &["exec", "main.rb"],
+            b"puts 'a'\nx",
+            b"\xff",
+            3,
+            b"",
+            b"main.rb:2:1: refused: NotYet\n",
+        ),
+        (
+            &["exec", "other.rb"],
+            b"",
+            b"\xff",
+            4,
+            b"",
+            b"missing: other.rb\n",
+        ),
+    ];
+    for (words, file, input, code, out, err) in rows {
+        for out_most in [1, 4096] {
+            let call = Call {
+                input,
+                out_most,
+                ..Call::of(words, file)
+            };
+            let (status, written, told) = call.ran(&rt)?;
+            assert_eq!(rt; status.code(), code);
+            assert_eq!(rt; written.as_slice(), out);
+            assert_eq!(rt; told.as_slice(), err);
+        }
+    }
+    Ok(())
+}
+
+#[test]
+fn input_and_out_fail_in_a_run(rt: HostRuntime) -> Result<(), Fail> {
+    for at in [0, 1] {
+        let call = Call {
+            input: b"a",
+            input_fails: &[at],
+            ..Call::of(&["exec", "main.rb"], b"puts 'a'")
+        };
+        let (status, out, err) = call.ran(&rt)?;
+        assert_eq!(rt; status, Status::ReadFault);
+        assert!(rt; out.is_empty());
+        assert_eq!(rt; err.as_slice(), b"read fault\n".as_slice());
+    }
+    for at in 0..3u64 {
+        let call = Call {
+            out_most: 1,
+            out_fails: &[at],
+            ..Call::of(&["exec", "main.rb"], b"puts 'a'\nputs 'b'")
+        };
+        let (status, out, err) = call.ran(&rt)?;
+        assert_eq!(rt; status, Status::WriteFault);
+        assert_eq!(rt; out.as_slice(), &b"a\nb"[..at as usize]);
+        assert_eq!(rt; err.as_slice(), b"write fault\n".as_slice());
+    }
+    Ok(())
+}
+
+#[test]
+fn scripts_and_inputs_of_one_byte_more_than_the_longest(rt: HostRuntime) -> Result<(), Fail> {
+    let alloc = rt.alloc();
+    let script = vec![in alloc; b' '; 67_108_865]?;
+    let fault = script_of(alloc, &script).err();
+    let pos = Pos { line: 0, col: 0 };
+    assert!(rt; matches!(fault, Some(ScriptFault::NotScript { pos: at }) if at == pos));
+    let input = vec![in alloc; b'a'; 16_777_217]?;
+    let fault = read_input(alloc, &mut SureSource::new(alloc, input)).err();
+    assert!(rt; matches!(fault, Some(InputFault::BadInput { offset: 16_777_216 })));
     Ok(())
 }

@@ -10,7 +10,7 @@ use Rattle.opal_base.specs.declared.place.Pos.{Pos}
 use Rattle.opal_base.specs.Outside.{FileMap}
 use Rattle.opal_base.specs.Place.{place_at}
 use Rattle.opal_base.specs.Text.{IsDecoded}
-use Rattle.opal_base.proofs.Texts.{one_text_is, decoded_or_not_is}
+use Rattle.opal_base.proofs.Texts.{one_text_is, one_offset_is, decoded_or_not_is}
 use Rattle.ruby_meaning.specs.declared.construct.Construct.{Construct}
 use Rattle.ruby_meaning.specs.declared.construct.Construct.TheVariants.{FileTooLong, BadByte, NotYet}
 use Rattle.ruby_meaning.specs.declared.tree.Bundle.{Bundle}
@@ -86,15 +86,9 @@ cause_of bytes pos BadByte r = bad refl r
 cause_of bytes pos NotYet r = unbuilt refl r
 cause_of bytes pos _ r = absurd r
 
-one_offset : (bytes : List ℕ) (m n : ℕ) → IsValidUpTo bytes m → IsValidUpTo bytes n → m ≡ n
-one_offset bytes m n p q = ⊎_elim
-    (λ less. absurd (p.longest n less q.front))
-    (λ not. ⊎_elim (λ less. absurd (q.longest m less p.front)) (λ too. omega arith) (cases_lt n m))
-    (cases_lt m n)
-
 one_bad : (bytes : List ℕ) (pos other : Pos) → IsBadByte bytes pos → IsBadByte bytes other → pos ≡ other
 one_bad bytes pos other p q =
-    let n = one_offset bytes p.offset q.offset p.valid q.valid in
+    let n = one_offset_is bytes p.offset q.offset p.valid q.valid in
     let f = one_text_is (take q.offset bytes) p.front q.front (subst (λ k. IsDecoded (take k bytes) p.front) n p.decoded) q.decoded in
     p.at ∙ ap (λ front. place_at front (length front)) f ∙ sym q.at
 

@@ -5,6 +5,7 @@ use Rattle.opal_base.proofs.source.read_all.Given as goal
 abbrev pub invariant-chunks : goal.invariant-chunks
 invariant-chunks g l = record {
   read : g.S.Source.left l.initial.source ≡ preceded l.bytes.items (g.S.Source.left l.source);
+  bound : length l.bytes.items ≤ l.most + 1;
   later : g.S.Source.faults l.initial.source ≤ g.S.Source.faults l.source;
 }
 

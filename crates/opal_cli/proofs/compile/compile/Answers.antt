@@ -1,12 +1,11 @@
 use Rattle.std.proofs.Common.{◌≡◌, ◌∙◌, refl, sym, subst}
-use Rattle.ruby_meaning.specs.Load.{Whole}
 use Rattle.es5_tree.specs.Spells.{EsSpells}
 use Rattle.opal_cli.specs.Translation.{script_of}
-use Rattle.opal_cli.proofs.Compiling.{took_none, compiled, front_of_script, unloaded_answer}
+use Rattle.opal_cli.proofs.Compiling.{took_none, compiled, front_of_script, unloaded_answer, written_answer}
 use Rattle.opal_cli.proofs.compile.compile.Goals as goal
 
 pub returns-in-Err-clause-answer : goal.returns-in-Err-clause-answer
-returns-in-Err-clause-answer g c map e a = unloaded_answer map c.args.file.now c.in-Err.fault _ (c.in-Err.ensures.loads map e) c.unloaded.ensures a
+returns-in-Err-clause-answer g c map e a = unloaded_answer map c.args.file.now c.in-Err.fault _ _ (c.in-Err.ensures.loads map e) c.unloaded.ensures a
 
 pub returns-in-Ok-write_all-clause-headline : goal.returns-in-Ok-write_all-clause-headline
 returns-in-Ok-write_all-clause-headline g c map e d =
@@ -16,14 +15,16 @@ returns-in-Ok-write_all-clause-headline g c map e d =
     c.in-Ok-write_all.ensures.took
 
 pub returns-in-Ok-write_all-clause-answer : goal.returns-in-Ok-write_all-clause-answer
-returns-in-Ok-write_all-clause-answer g c map e a = (Whole c.in-Ok.bundle, c.in-Ok.ensures.loads map e, refl)
+returns-in-Ok-write_all-clause-answer g c map e a =
+    written_answer map c.args.file.now c.in-Ok.bundle c.as_slice.result.now _ _ (c.in-Ok.ensures.loads map e)
+    (c.as_slice.ensures ∙ c.in-Ok-script_text.ensures.text) c.in-Ok-write_all.ensures.took
 
 pub returns-in-Ok-write_all-clause-front : goal.returns-in-Ok-write_all-clause-front
-returns-in-Ok-write_all-clause-front g c map e text w =
-    front_of_script map c.args.file.now c.in-Ok.bundle c.as_slice.result.now text _ _ c.one_load.ensures.one_load (c.in-Ok.ensures.loads map e)
-    (c.as_slice.ensures ∙ c.in-Ok-script_text.ensures.text) w c.write_all.ensures.front
+returns-in-Ok-write_all-clause-front g c map e loaded l =
+    front_of_script map c.args.file.now c.in-Ok.bundle c.as_slice.result.now loaded _ _ c.one_load.ensures.one_load (c.in-Ok.ensures.loads map e)
+    (c.as_slice.ensures ∙ c.in-Ok-script_text.ensures.text) l c.write_all.ensures.front
 
 pub returns-clause-front : goal.returns-clause-front
-returns-clause-front g c map e text w =
-    front_of_script map c.args.file.now c.in-Ok.bundle c.as_slice.result.now text _ _ c.one_load.ensures.one_load (c.in-Ok.ensures.loads map e)
-    (c.as_slice.ensures ∙ c.in-Ok-script_text.ensures.text) w c.write_all.ensures.front
+returns-clause-front g c map e loaded l =
+    front_of_script map c.args.file.now c.in-Ok.bundle c.as_slice.result.now loaded _ _ c.one_load.ensures.one_load (c.in-Ok.ensures.loads map e)
+    (c.as_slice.ensures ∙ c.in-Ok-script_text.ensures.text) l c.write_all.ensures.front

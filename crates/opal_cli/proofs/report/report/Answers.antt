@@ -9,7 +9,7 @@ returns-in-WriteFault-clause-told g c = fault_line _ _ _ _ _ (sym c.status-statu
 
 pub returns-in-Ok-clause-told : goal.returns-in-Ok-clause-told
 returns-in-Ok-clause-told g c = let t = c.tell.ensures in
-    tried _ _ _ _ _ (end_of c.args.outcome.now) _ _ _ (inl refl) c.status-status.ensures (c.as_bytes.ensures.value ∙ c.in-Ok.ensures) c.in_default.not-WriteFault t.status t.line t.cut t.rose
+    tried _ _ _ _ _ (end_of c.args.outcome.now) _ _ _ (inl refl) c.status-status.ensures (c.as_slice.ensures ∙ c.in-Ok.ensures) c.in_default.not-WriteFault t.status t.line t.cut t.rose
 
 pub returns-in-Err-clause-told : goal.returns-in-Err-clause-told
 returns-in-Err-clause-told g c = let t = c.tell-in-Err.ensures in

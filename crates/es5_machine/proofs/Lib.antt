@@ -1,0 +1,5 @@
+mod Tasks
+mod Plans
+mod Steps
+mod Moves
+mod Whole

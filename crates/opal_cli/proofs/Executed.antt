@@ -1,0 +1,172 @@
+-- From the run of a script read back to Ruby's evaluation.
+use Rattle.std.proofs.Common.{◌≡◌, ◌⊎◌, ℕ, List, Some, refl, sym, ap, ◌∙◌, subst, Option}
+use mathlib.Core.Logic.{inl, inr}
+use Rattle.opal_base.specs.Outside.{FileMap, appended}
+use Rattle.opal_base.specs.Shown.{Shown, Ended, Going, Shows}
+use Rattle.ruby_meaning.specs.declared.tree.Bundle.{Bundle}
+use Rattle.ruby_meaning.specs.Run as ruby
+use Rattle.ruby_meaning.specs.Run.{RubyEnd, ruby_run}
+use Rattle.es5_tree.specs.declared.tree.Script.{Script}
+use Rattle.es5_tree.specs.Laws as law
+use Rattle.es5_tree.specs.Laws.{OneScript, ReadSpells, SitesDontMatter, SameShown}
+use Rattle.es5_tree.specs.Run as es
+use Rattle.es5_tree.specs.Run.{EsEnd, es_run}
+use Rattle.es5_tree.specs.State.{Text}
+use Rattle.es5_machine.specs.Run.{kind_of}
+use Rattle.es5_machine.specs.declared.end.OutKind.{OutKind as Kind}
+use Rattle.opal_base.specs.declared.place.Pos.{Pos}
+use Rattle.opal_cli.specs.declared.words.Budget.{Budget}
+use Rattle.opal_cli.specs.declared.status.Status.{Status}
+use Rattle.opal_cli.specs.Agree.{Agree, SameEnd}
+use Rattle.opal_cli.specs.Answers.{AnswersAs, IsRun}
+use Rattle.opal_cli.specs.Words.{Exec}
+use Rattle.opal_cli.specs.Ends.{End, Wrote, UncaughtBy, Unread, RefusedAt, MissingFile, ReadFailed, WriteFailed, OutsideAt, StepsOver, CellsOver, NoScript, BadInputAt, OutOfMemory, TextTooLong, status_of}
+use Rattle.opal_cli.specs.Translation.{script_of}
+use Rattle.opal_cli.specs.Execution.{IsProgram, HasProgram, ExecAnswers, IsInputOf, RunsTo, RunAnswers, RubyShows, Executes}
+
+-- the end of the script that was read back is that of the bundle's script
+same_end : (last : RubyEnd) (end other : EsEnd) → law.SameEnd end other → SameEnd last other → SameEnd last end
+same_end ruby.Finished es.Finished es.Finished s t = tt
+same_end ruby.Finished es.Finished (es.Uncaught c d) s t = absurd s
+same_end ruby.Finished es.Finished (es.Outside other there) s t = absurd s
+same_end ruby.Finished (es.Uncaught a b) es.Finished s t = absurd s
+same_end ruby.Finished (es.Uncaught a b) (es.Uncaught c d) s t = absurd t
+same_end ruby.Finished (es.Uncaught a b) (es.Outside other there) s t = absurd s
+same_end ruby.Finished (es.Outside kind place) es.Finished s t = absurd s
+same_end ruby.Finished (es.Outside kind place) (es.Uncaught c d) s t = absurd s
+same_end ruby.Finished (es.Outside kind place) (es.Outside other there) s t = absurd t
+same_end (ruby.Uncaught name message) es.Finished es.Finished s t = absurd t
+same_end (ruby.Uncaught name message) es.Finished (es.Uncaught c d) s t = absurd s
+same_end (ruby.Uncaught name message) es.Finished (es.Outside other there) s t = absurd s
+same_end (ruby.Uncaught name message) (es.Uncaught a b) es.Finished s t = absurd s
+same_end (ruby.Uncaught name message) (es.Uncaught a b) (es.Uncaught c d) s t = (t.0 ∙ sym s.0, t.1 ∙ sym s.1)
+same_end (ruby.Uncaught name message) (es.Uncaught a b) (es.Outside other there) s t = absurd s
+same_end (ruby.Uncaught name message) (es.Outside kind place) es.Finished s t = absurd s
+same_end (ruby.Uncaught name message) (es.Outside kind place) (es.Uncaught c d) s t = absurd s
+same_end (ruby.Uncaught name message) (es.Outside kind place) (es.Outside other there) s t = absurd t
+same_end ruby.NumberOutside es.Finished es.Finished s t = absurd t
+same_end ruby.NumberOutside es.Finished (es.Uncaught c d) s t = absurd s
+same_end ruby.NumberOutside es.Finished (es.Outside other there) s t = absurd s
+same_end ruby.NumberOutside (es.Uncaught a b) es.Finished s t = absurd s
+same_end ruby.NumberOutside (es.Uncaught a b) (es.Uncaught c d) s t = absurd t
+same_end ruby.NumberOutside (es.Uncaught a b) (es.Outside other there) s t = absurd s
+same_end ruby.NumberOutside (es.Outside kind place) es.Finished s t = absurd s
+same_end ruby.NumberOutside (es.Outside kind place) (es.Uncaught c d) s t = absurd s
+same_end ruby.NumberOutside (es.Outside kind place) (es.Outside other there) s t = s ∙ t
+
+-- what Ruby's evaluation ends with
+abbrev RubyEnds : Bundle → Text → List ℕ → EsEnd → Type 0
+RubyEnds bundle input output end = (n : ℕ) × (last : RubyEnd) × (ruby_run bundle input n ≡ Ended output last) × SameEnd last end
+
+ended_like : (bundle : Bundle) (script : Script) (input : Text) (n : ℕ) (output : List ℕ) (end : EsEnd) (other : Shown EsEnd) → Agree bundle script → es_run script input n ≡ other → SameShown (Ended output end) other → RubyEnds bundle input output end
+ended_like bundle script input n output end (Ended shown last) agree e s =
+    let r = agree.ends_only input n shown last e in
+    (r.0, r.1, r.2 ∙ ap (λ o. Ended o r.1) (sym s.0), same_end r.1 end last s.1 r.3)
+ended_like bundle script input n output end (Going shown) agree e s = absurd s
+
+goes_like : (bundle : Bundle) (script : Script) (input : Text) (n : ℕ) (output : List ℕ) (other : Shown EsEnd) → Agree bundle script → es_run script input n ≡ other → SameShown (Going output) other → (k : ℕ) × Shows (ruby_run bundle input k) output
+goes_like bundle script input n output (Ended shown last) agree e s = absurd s
+goes_like bundle script input n output (Going shown) agree e s =
+    let r = agree.goes_only input n shown e in
+    (r.0, subst (Shows (ruby_run bundle input r.0)) (sym s) r.1)
+
+same_shown : OneScript → ReadSpells → SitesDontMatter → (bundle : Bundle) (script : Script) → IsProgram bundle script → (input : Text) (n : ℕ) → SameShown (es_run script input n) (es_run (script_of bundle) input n)
+same_shown one spells sites bundle script p input n = sites script (script_of bundle) (one script (script_of bundle) _ (spells _ script p.reads) p.spells) input n
+
+ruby_ends : OneScript → ReadSpells → SitesDontMatter → (bundle : Bundle) (script : Script) → IsProgram bundle script → (input : Text) (n : ℕ) (output : List ℕ) (end : EsEnd) → es_run script input n ≡ Ended output end → RubyEnds bundle input output end
+ruby_ends one spells sites bundle script p input n output end e =
+    ended_like bundle (script_of bundle) input n output end _ p.agrees refl (subst (λ s. SameShown s (es_run (script_of bundle) input n)) e (same_shown one spells sites bundle script p input n))
+
+finished : (bundle : Bundle) (input : Text) (output : List ℕ) (n : ℕ) (last : RubyEnd) → ruby_run bundle input n ≡ Ended output last → SameEnd last es.Finished → RubyShows bundle input Wrote output
+finished bundle input output n ruby.Finished e s = (n, e)
+finished bundle input output n (ruby.Uncaught name message) e s = absurd s
+finished bundle input output n ruby.NumberOutside e s = absurd s
+
+uncaught : (bundle : Bundle) (input : Text) (output name message : List ℕ) (n : ℕ) (last : RubyEnd) → ruby_run bundle input n ≡ Ended output last → SameEnd last (es.Uncaught name message) → RubyShows bundle input (UncaughtBy name message) output
+uncaught bundle input output name message n ruby.Finished e s = absurd s
+uncaught bundle input output name message n (ruby.Uncaught other text) e s = (n, e ∙ ap (Ended output) (ap (λ x. ruby.Uncaught x text) s.0 ∙ ap (ruby.Uncaught name) s.1))
+uncaught bundle input output name message n ruby.NumberOutside e s = absurd s
+
+outside : (bundle : Bundle) (input : Text) (output : List ℕ) (kind : Kind) (pos : Pos) (n : ℕ) (last : RubyEnd) → ruby_run bundle input n ≡ Ended output last → SameEnd last (es.Outside (kind_of kind) pos) → RubyShows bundle input (OutsideAt kind pos) output
+outside bundle input output kind pos n ruby.Finished e s = absurd s
+outside bundle input output kind pos n (ruby.Uncaught name message) e s = absurd s
+outside bundle input output kind pos n ruby.NumberOutside e s = (n, e)
+
+-- the evaluation shows what the run of the script read back shows
+pub ruby_shows : OneScript → ReadSpells → SitesDontMatter → (bundle : Bundle) (script : Script) → IsProgram bundle script → (input : Text) (budget : Budget) (end : End) (output : List ℕ) → RunsTo script input budget end output → RubyShows bundle input end output
+ruby_shows one spells sites bundle script p input budget Wrote output r =
+    let t = ruby_ends one spells sites bundle script p input budget.steps output es.Finished r.shows in
+    finished bundle input output t.0 t.1 t.2 t.3
+ruby_shows one spells sites bundle script p input budget (UncaughtBy name message) output r =
+    let t = ruby_ends one spells sites bundle script p input budget.steps output (es.Uncaught name message) r.shows in
+    uncaught bundle input output name message t.0 t.1 t.2 t.3
+ruby_shows one spells sites bundle script p input budget (OutsideAt kind pos) output r =
+    let t = ruby_ends one spells sites bundle script p input budget.steps output (es.Outside (kind_of kind) pos) r.shows in
+    outside bundle input output kind pos t.0 t.1 t.2 t.3
+ruby_shows one spells sites bundle script p input budget (StepsOver steps) output r =
+    goes_like bundle (script_of bundle) input budget.steps output _ p.agrees refl (subst (λ s. SameShown s (es_run (script_of bundle) input budget.steps)) r.1.shows (same_shown one spells sites bundle script p input budget.steps))
+ruby_shows one spells sites bundle script p input budget (CellsOver cells) output r = tt
+ruby_shows one spells sites bundle script p input budget Unread output r = absurd r
+ruby_shows one spells sites bundle script p input budget (RefusedAt file pos construct) output r = absurd r
+ruby_shows one spells sites bundle script p input budget (MissingFile name) output r = absurd r
+ruby_shows one spells sites bundle script p input budget ReadFailed output r = absurd r
+ruby_shows one spells sites bundle script p input budget WriteFailed output r = absurd r
+ruby_shows one spells sites bundle script p input budget (NoScript file pos) output r = absurd r
+ruby_shows one spells sites bundle script p input budget (BadInputAt offset) output r = absurd r
+ruby_shows one spells sites bundle script p input budget OutOfMemory output r = absurd r
+ruby_shows one spells sites bundle script p input budget TextTooLong output r = absurd r
+
+-- the run on the input of a status of a run that began
+on_input : (input : Option (List ℕ)) (script : Script) (budget : Budget) (end : End) (output : List ℕ) → IsRun (status_of end) → RunAnswers input script budget end output → (text : Text) × IsInputOf input text × RunsTo script text budget end output
+on_input input script budget Wrote output i r = r
+on_input input script budget (UncaughtBy name message) output i r = r
+on_input input script budget (OutsideAt kind pos) output i r = r
+on_input input script budget (StepsOver steps) output i r = r
+on_input input script budget (CellsOver cells) output i r = r
+on_input input script budget Unread output i r = absurd i
+on_input input script budget (RefusedAt file pos construct) output i r = absurd i
+on_input input script budget (MissingFile name) output i r = absurd i
+on_input input script budget ReadFailed output i r = absurd i
+on_input input script budget WriteFailed output i r = absurd i
+on_input input script budget (NoScript file pos) output i r = absurd i
+on_input input script budget (BadInputAt offset) output i r = absurd i
+on_input input script budget OutOfMemory output i r = absurd i
+on_input input script budget TextTooLong output i r = absurd i
+
+with_program : (files : FileMap) (input : Option (List ℕ)) (file : List ℕ) (budget : Budget) (end : End) (output : List ℕ) → IsRun (status_of end) → ExecAnswers files input file budget end output → (bundle : Bundle) × (script : Script) × HasProgram files file bundle script × RunAnswers input script budget end output
+with_program files input file budget Wrote output i r = r
+with_program files input file budget (UncaughtBy name message) output i r = r
+with_program files input file budget (OutsideAt kind pos) output i r = r
+with_program files input file budget (StepsOver steps) output i r = r
+with_program files input file budget (CellsOver cells) output i r = r
+with_program files input file budget Unread output i r = absurd i
+with_program files input file budget (RefusedAt name pos construct) output i r = absurd i
+with_program files input file budget (MissingFile name) output i r = absurd i
+with_program files input file budget ReadFailed output i r = absurd i
+with_program files input file budget WriteFailed output i r = absurd i
+with_program files input file budget (NoScript name pos) output i r = absurd i
+with_program files input file budget (BadInputAt offset) output i r = absurd i
+with_program files input file budget OutOfMemory output i r = absurd i
+with_program files input file budget TextTooLong output i r = absurd i
+
+-- what the answer says of Ruby
+pub executed : OneScript → ReadSpells → SitesDontMatter → (files : FileMap) (input : Option (List ℕ)) (file : List ℕ) (budget : Budget) (answer : Status) (old new : Option (List ℕ)) → IsRun answer → AnswersAs files input (Some (Exec file budget)) answer old new → Executes files input file budget answer old new
+executed one spells sites files input file budget answer old new i a =
+    let end = a.0 in
+    let output = a.1.0 in
+    let run = subst IsRun a.2 i in
+    let p = with_program files input file budget end output run a.1.1 in
+    let t = on_input input p.1 budget end output run p.3 in
+    record {
+      bundle = p.0;
+      script = p.1;
+      program = p.2;
+      text = t.0;
+      is_input = t.1;
+      end = end;
+      is = a.2;
+      output = output;
+      runs = t.2;
+      shows = ruby_shows one spells sites p.0 p.1 p.2.program t.0 budget end output t.2;
+      took = a.1.2;
+    }

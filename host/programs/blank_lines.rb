@@ -1,0 +1,3 @@
+puts 'ends with a newline of its own'
+puts ''
+puts ''

@@ -1,0 +1,3 @@
+puts 'a'
+puts 'b'
+puts 'c'

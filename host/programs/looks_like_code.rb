@@ -1,0 +1,1 @@
+puts '#{x} $host.write(1); // /* */'

@@ -1,0 +1,2 @@
+puts '"quoted"'
+puts '</script>'

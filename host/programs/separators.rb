@@ -1,0 +1,2 @@
+puts ' line and paragraph separators '
+puts '﻿mark'

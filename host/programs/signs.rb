@@ -1,0 +1,2 @@
+puts '%s %d {} [] () use strict'
+puts 'use strict'

@@ -1,0 +1,2 @@
+puts 'Zürich, 東京'
+puts '😀 𝄞'
