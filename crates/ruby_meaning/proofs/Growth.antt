@@ -103,6 +103,7 @@ grows_act : (f h : Eval) → EvalGrows f h → (layer : Layer) (s : State) (n m 
 grows_act f h x (Kind-F.Str text) s n m b = ends_here n m s _
 grows_act f h x (Kind-F.Call receiver name args block marked) s n m b = grows_values f h x [] args (call name) (grows_call_if _) s n m b
 grows_act f h x (Kind-F.Seq nodes) s n m b = grows_in_order f h x _ nodes s n m b
+grows_act f h x _ s n m b = ends_here n m s _
 
 -- ---- to a depth
 

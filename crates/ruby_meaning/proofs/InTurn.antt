@@ -1,19 +1,18 @@
 -- The run of a program of lines: one unit for the sequence, and for each line three: the call, its text, and what the host writes.
-use Rattle.std.proofs.Common.{◌≡◌, inl, inr, ℕ, zero, suc, ◌+◌, ◌*◌, ◌/◌, ◌%◌, ◌-◌, ◌<◌, ◌≤◌, List, [], ◌∷◌, ◌++◌, length, map, take, refl, sym, ap, ◌∙◌, arith, append_assoc, append-nil}
+use Rattle.std.proofs.Common.{◌≡◌, inl, inr, ℕ, zero, suc, ◌+◌, ◌*◌, ◌/◌, ◌%◌, ◌-◌, ◌<◌, ◌≤◌, List, [], ◌∷◌, ◌++◌, length, map, take, refl, sym, ap, ◌∙◌, arith, append_assoc, append-nil, None}
+use Rattle.std.specs.Prelude.{codes}
 use Rattle.std.specs.List.{flat_map}
 use Rattle.std.proofs.lemmas.List.{take-map, take_all, length-map}
 use Rattle.std.proofs.lemmas.Bool.{cases_lt}
-use denote.Hole.Carrier
 use Rattle.opal_base.specs.Shown.{Wrote, output_of, Shown, Ended, Going, Shows}
 use Rattle.opal_base.specs.Text.{utf8_of}
 use Rattle.ruby_meaning.specs.declared.value.Value.TheVariants as value
-use Rattle.ruby_meaning.specs.declared.tree.Kind.{Kind-F, out-Kind}
+use Rattle.ruby_meaning.specs.declared.tree.Kind.{out-Kind}
 use Rattle.ruby_meaning.specs.declared.tree.Kind.TheVariants as kind
 use Rattle.ruby_meaning.specs.declared.tree.Node.{Node}
-use Rattle.ruby_meaning.specs.declared.tree.Kind.TheBlock
-use Rattle.ruby_meaning.specs.State.{Text, State, Val, Ends, Starved, andthen, first_state}
-use Rattle.ruby_meaning.specs.Eval.{Layer, act, in_order, onval, puts_text, eval_to}
-use Rattle.ruby_meaning.specs.Lines.{puts_node, puts_nodes, program_of}
+use Rattle.ruby_meaning.specs.State.{Text, State, Result, Val, Outcome, Ends, Starved, andthen, first_state}
+use Rattle.ruby_meaning.specs.Eval.{Eval, act, in_order, values, call, onval, puts_text, eval_to}
+use Rattle.ruby_meaning.specs.Lines.{text_node, puts_node, puts_nodes, program_of}
 use Rattle.ruby_meaning.specs.Run.{RubyEnd, Finished, shown, ruby_run}
 use Rattle.ruby_meaning.specs.Laws.{PutsInTurn}
 
@@ -24,17 +23,28 @@ after (text ∷ texts) s = after texts (record s { calls = Wrote (puts_text text
 
 -- ---- one line
 
+-- the call of a line, opened
+call_opens : (line : ℕ) (text : List ℕ) (f : Eval) (s : State) (g : ℕ) → act f (out-Kind (puts_node line text).kind) s g ≡ values f [] (text_node line text ∷ []) (call (codes "puts")) s g
+call_opens line text f s g = ap (λ layer. act f layer s g) (kind.outs-Call None (codes "puts") (text_node line text ∷ []) None None)
+
+text_ends : (line : ℕ) (text : List ℕ) (f : Eval) (s : State) (g : ℕ) → act f (out-Kind (text_node line text).kind) s g ≡ Ends (Val (value.Text text)) s g
+text_ends line text f s g = ap (λ layer. act f layer s g) (kind.outs-Str text)
+
+-- what comes behind the text
+abbrev written : Eval → Outcome Result → Outcome Result
+written f o = andthen o (onval (λ v. values f ([] ++ v ∷ []) [] (call (codes "puts"))))
+
 line_ends : (line : ℕ) (text : List ℕ) (d : ℕ) (s : State) (g : ℕ) → eval_to (suc (suc d)) (puts_node line text) s (suc (suc (suc g))) ≡ Ends (Val value.Nil) (record s { calls = Wrote (puts_text text) ∷ s.calls }) g
-unfolding eval_to out-Kind Carrier.out TheBlock.shown-the_row-Node-2 Carrier.shown Carrier.hidden
-line_ends line text d s g = refl
+unfolding eval_to
+line_ends line text d s g = call_opens line text (eval_to (suc d)) s (suc (suc g)) ∙ ap (written (eval_to (suc d))) (text_ends line text (eval_to d) s (suc g))
 
 line_starves : (line : ℕ) (text : List ℕ) (d : ℕ) (s : State) (g : ℕ) → g < 3 → eval_to d (puts_node line text) s g ≡ Starved s
-unfolding eval_to out-Kind Carrier.out TheBlock.shown-the_row-Node-2 Carrier.shown Carrier.hidden
+unfolding eval_to
 line_starves line text zero s g l = refl
 line_starves line text (suc d) s zero l = refl
-line_starves line text (suc zero) s (suc g) l = refl
-line_starves line text (suc (suc d)) s (suc zero) l = refl
-line_starves line text (suc (suc d)) s (suc (suc zero)) l = refl
+line_starves line text (suc zero) s (suc g) l = call_opens line text (eval_to zero) s g
+line_starves line text (suc (suc d)) s (suc zero) l = call_opens line text (eval_to (suc d)) s zero
+line_starves line text (suc (suc d)) s (suc (suc zero)) l = call_opens line text (eval_to (suc d)) s (suc zero) ∙ ap (written (eval_to (suc d))) (text_ends line text (eval_to d) s zero)
 line_starves line text (suc (suc d)) s (suc (suc (suc g))) l = absurd (omega arith)
 
 -- ---- the lines, with g units and no fewer nodes nested
@@ -57,26 +67,12 @@ lines_starve (text ∷ texts) line d s g (suc j) r e l i b = absurd (omega arith
 
 -- ---- the program
 
-abbrev nodes_of : Layer → List Node
-nodes_of (Kind-F.Seq nodes) = nodes
-nodes_of _ = []
-
--- a sequence holds the nodes that it was made of
-seq_holds : (nodes : List Node) → nodes_of (out-Kind (kind.Seq nodes)) ≡ nodes
-unfolding out-Kind Carrier.out TheBlock.shown-the_row-Node-2 Carrier.shown Carrier.hidden
-seq_holds [] = refl
-seq_holds (node ∷ nodes) = ap (λ l. node ∷ l) (seq_holds nodes)
-
-seq_out : (nodes : List Node) → out-Kind (kind.Seq nodes) ≡ Kind-F.Seq (nodes_of (out-Kind (kind.Seq nodes)))
-unfolding out-Kind Carrier.out
-seq_out nodes = refl
-
 abbrev run_of : List (List ℕ) → Text → ℕ → Shown RubyEnd
 run_of texts input = ruby_run (record { main = program_of texts }) input
 
 run_steps : (texts : List (List ℕ)) (input : Text) (n : ℕ) → run_of texts input (suc n) ≡ shown (in_order (eval_to n) value.Nil (puts_nodes 0 texts) (first_state input) n)
 unfolding ruby_run eval_to
-run_steps texts input n = ap (λ layer. shown (act (eval_to n) layer (first_state input) n)) (seq_out (puts_nodes 0 texts) ∙ ap Kind-F.Seq (seq_holds (puts_nodes 0 texts)))
+run_steps texts input n = ap (λ layer. shown (act (eval_to n) layer (first_state input) n)) (kind.outs-Seq (puts_nodes 0 texts))
 
 run_none : (texts : List (List ℕ)) (input : Text) → run_of texts input 0 ≡ Going []
 unfolding ruby_run eval_to

@@ -4,7 +4,10 @@ use Rattle.opal_base.specs.Shown.{Wrote}
 use Rattle.ruby_meaning.specs.declared.value.Value.{Value}
 use Rattle.ruby_meaning.specs.declared.value.Value.TheVariants as value
 use Rattle.ruby_meaning.specs.declared.tree.Node.{Node}
+use Rattle.ruby_meaning.specs.declared.tree.Base.{Base}
 use Rattle.ruby_meaning.specs.declared.tree.Kind.{Kind, Kind-F, out-Kind}
+use Rattle.ruby_meaning.specs.declared.tree.ModuleForm.{ModuleForm}
+use Rattle.ruby_meaning.specs.declared.tree.Params.{Params}
 use Rattle.ruby_meaning.specs.State.{Text, State, Result, Val, Outside, Outcome, Ends, Starved, andthen}
 
 abbrev pub Eval : Type 0
@@ -12,7 +15,7 @@ Eval = Node → State → ℕ → Outcome Result
 
 -- one layer of a node
 abbrev pub Layer : Type 0
-Layer = Kind-F Kind Node
+Layer = Kind-F Base Kind ModuleForm Node Params
 
 -- goes on from a value, and passes on what is none
 abbrev pub onval : (Value → State → ℕ → Outcome Result) → Result → State → ℕ → Outcome Result
@@ -61,6 +64,8 @@ abbrev pub act : Eval → Layer → State → ℕ → Outcome Result
 act f (Kind-F.Str text) s g = Ends (Val (value.Text text)) s g
 act f (Kind-F.Call receiver name args block marked) s g = values f [] args (call name) s g
 act f (Kind-F.Seq nodes) s g = in_order f value.Nil nodes s g
+-- no other form is let through by the front end yet
+act f _ s g = Ends (Val value.Nil) s g
 
 -- to a depth: with n units no more than n nodes are nested
 unfoldable pub eval_to : ℕ → Eval

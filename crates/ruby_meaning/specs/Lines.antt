@@ -39,8 +39,11 @@ node kind line from to = record { kind = kind; span = record { from = place line
 abbrev pub line_end : List ℕ → ℕ
 line_end text = length text + 7
 
+abbrev pub text_node : ℕ → List ℕ → Node
+text_node line text = node (kind.Str text) line 5 (line_end text)
+
 abbrev pub puts_node : ℕ → List ℕ → Node
-puts_node line text = node (kind.Call None (codes "puts") (node (kind.Str text) line 5 (line_end text) ∷ []) None None) line 0 (line_end text)
+puts_node line text = node (kind.Call None (codes "puts") (text_node line text ∷ []) None None) line 0 (line_end text)
 
 -- the nodes of lines, of which the first has this number
 abbrev pub puts_nodes : ℕ → List (List ℕ) → List Node

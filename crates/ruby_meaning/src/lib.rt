@@ -22,5 +22,8 @@ pub use spot::Spot;
 pub use table::{BLOCK_BEGIN, BLOCK_END, END_LINE, MARKS, METHOD_MARKS, RESERVED};
 pub use token::{Mark, Token, TokenKind, Tokens, Word};
 pub use token_laws::{longest_sign, one_lexing, quoted_reads, tokens_placed};
-pub use tree::{Bundle, Kind, Node, Nodes, Program};
+pub use tree::{
+    Base, Bundle, JumpKind, Kind, Literal, ModuleForm, Node, Nodes, Operator, Params, Program,
+    Rest, Slot, Slots,
+};
 pub use value::Value;
