@@ -1,4 +1,5 @@
 pub mod Constructs
+pub mod Depth
 pub mod Lexing
 pub mod Lines
 pub mod State

@@ -10,6 +10,7 @@ mod table;
 mod token;
 mod token_laws;
 mod tree;
+mod tree_depth;
 mod value;
 
 pub use construct::{Construct, Stop};
@@ -26,4 +27,5 @@ pub use tree::{
     Base, Bundle, JumpKind, Kind, Literal, ModuleForm, Node, Nodes, Operator, Params, Program,
     Rest, Slot, Slots,
 };
+pub use tree_depth::depth;
 pub use value::Value;
