@@ -1,0 +1,156 @@
+-- The reader of a sound table reads it.
+use Rattle.std.proofs.Common.{◌≡◌, ℕ, zero, suc, ◌≤◌, ◌<◌, Bool, true, false, ◌&&◌, ◌||◌, List, [], Some, None, inl, inr, refl, sym, ap, ◌∙◌, subst, arith, le_refl, le_trans, true≢false, is_some, eq-or-lt_of_le, le_of_suc-le-suc}
+use Rattle.std.specs.Prelude.{nat_le, if◌then◌else◌}
+use Rattle.grammar.specs.Forms.{ChainSpells}
+use Rattle.grammar.specs.FormReaders.{Reads, Apart}
+use Rattle.grammar.specs.Rules.{Sort, El, deep, Rule, token, absent, sequence, choice, view, node, many, suffixes, suffix, starting, named, Grammar}
+use Rattle.grammar.specs.Spelling.{token_in, RuleSpells, RuleFront, Derives, DerivesFront}
+use Rattle.grammar.specs.Checks.{nullable, first, continues, Checks, Predictive, Disjoint, none_below, included}
+use Rattle.grammar.specs.Readers.{Reader, read_rule, read_within}
+use Rattle.grammar.proofs.Lists.{nil_cons, cons_nil, err_ok, err_inj, append_empty, and_both, and_split, or_left}
+use Rattle.grammar.proofs.ReadsSequence.{sequence_reads}
+use Rattle.grammar.proofs.ReadsBasic.{token_reads, absent_reads, choice_reads, view_reads, no_node_reads}
+use Rattle.grammar.proofs.ReadsMany.{many_reads}
+use Rattle.grammar.proofs.ReadsSuffixes.{suffixes_reads}
+use Rattle.grammar.proofs.ReadsSuffix.{suffix_reads}
+use Rattle.grammar.proofs.ReadsStarting.{starting_reads}
+use Rattle.grammar.proofs.Weakening.{weaken, suffixes_zero, suffix_zero}
+
+fits_up : (m n : ℕ) → m ≤ n → nat_le m n ≡ true
+fits_up m n h = search (arith, h)
+
+fits_down : (m n : ℕ) → nat_le m n ≡ true → m ≤ n
+fits_down m n h = search (arith, h)
+
+picked : {T : Type 0} (code : T → ℕ) (f : ℕ → Bool) (t : T) → is_some (token_in code f t) ≡ true → f (code t) ≡ true
+picked code f t = by (f (code t))
+  where
+    by : (c : Bool) → is_some (if c then Some t else None) ≡ true → c ≡ true
+    by true h = refl
+    by false h = absurd (true≢false (sym h))
+
+chain_token : {T A S : Type 0} (RuleSpells : A → List T → Type 0) (V : S → List T → Type 0) (f : A → S → A) → ((a : A) → RuleSpells a [] → ⊥) → ((s : S) → V s [] → ⊥) → (k : ℕ) (x : A) → ChainSpells RuleSpells V f k x [] → ⊥
+chain_token RuleSpells V f h g zero x m = h x m
+chain_token RuleSpells V f h g (suc k) x (l, s, v, w, e1, e2, m, y) = g s (subst (V s) ((append_empty v w e2).1) y)
+
+by_nullable : (n a c : Bool) → (a || (n && c)) ≡ true → (if n then a || c else a) ≡ true
+by_nullable true a c h = h
+by_nullable false true c h = h
+by_nullable false false c h = h
+
+never : {c : Bool} → c ≡ false → c ≡ true → ⊥
+never h g = true≢false (sym g ∙ h)
+
+clear_at : (n : ℕ) (f : ℕ → Bool) (k : ℕ) → none_below n f ≡ true → k < n → f k ≡ true → ⊥
+clear_at zero f k h lt e = let no : ⊥ = omega (arith, lt) in no
+clear_at (suc n) f k h lt e = by (λ y less. clear_at n f k y less e) (f n) refl h
+  where
+    by : (none_below n f ≡ true → k < n → ⊥) → (c : Bool) → f n ≡ c → (if c then false else none_below n f) ≡ true → ⊥
+    by go true x y = true≢false (sym y)
+    by go false x y = elim (eq-or-lt_of_le (le_of_suc-le-suc lt)) [
+      | inl same ↦ true≢false (sym e ∙ ap f same ∙ x)
+      | inr less ↦ go y less
+    ]
+
+in_all_at : (n : ℕ) (f g : ℕ → Bool) (k : ℕ) → included n f g ≡ true → k < n → f k ≡ true → g k ≡ true
+in_all_at n f g k h lt e = by (g k) refl
+  where
+    by : (c : Bool) → g k ≡ c → c ≡ true
+    by true x = refl
+    by false x = absurd (clear_at n (λ j. if g j then false else f j) k h lt (ap (λ c. if c then false else f k) x ∙ e))
+
+module _ {T N K : Type 0} {sorts : K → Sort} (G : Grammar T N K sorts) where
+  apart : (within : (t : T) → G.code t < G.size) (c f : ℕ → Bool) → Disjoint G c f → Apart (λ t. c (G.code t)) (λ t. f (G.code t))
+  apart within c f h t k j = clear_at G.size (λ n. c n && f n) (G.code t) h (within t) (and_both (c (G.code t)) _ k j)
+
+  pub nullable_sound : {s : Sort} (env : (k : K) → El T N (sorts k) → List T → Type 0) → ((k : K) (a : El T N (sorts k)) → env k a [] → G.name_nullable k ≡ true) → (r : Rule T N K sorts s) → Checks G r → (a : El T N s) → RuleSpells G env r a [] → nullable G r ≡ true
+  nullable_sound env h (token f) c a (t, e, x) = nil_cons e
+  nullable_sound env h (absent b) c a x = refl
+  nullable_sound env h (sequence r q) c a (v, w, e, x, y) =
+      let none = append_empty v w e in
+      and_both (nullable G r) (nullable G q) (nullable_sound env h r c.1 a.0 (subst (RuleSpells G env r a.0) none.0 x)) (nullable_sound env h q c.2 a.1 (subst (RuleSpells G env q a.1) none.1 y))
+  nullable_sound env h (choice r q) c a (inl x) = absurd (never c.1 (nullable_sound env h r c.2 a x))
+  nullable_sound env h (choice r q) c a (inr x) = nullable_sound env h q c.3 a x
+  nullable_sound env h (view f r) c a (b, e, x) = nullable_sound env h r c.1 b x
+  nullable_sound env h (node f r) c a (b, e, x) = nullable_sound env h r c.1 b x
+  nullable_sound env h (many r) c a x = refl
+  nullable_sound env h (suffixes r q f) c a (k, x) = absurd (chain_token (RuleSpells G env r) (RuleSpells G env q) f (λ b y. never c.2 (nullable_sound env h r c.5 b y)) (λ b y. never c.3 (nullable_sound env h q c.6 b y)) k a x)
+  nullable_sound env h (suffix r ok q f) c a (inl x) = absurd (never c.1 (nullable_sound env h r c.4 a x))
+  nullable_sound env h (suffix r ok q f) c a (inr (l, s, v, w, e1, e2, k, x, y)) =
+      absurd (never c.1 (nullable_sound env h r c.4 l (subst (RuleSpells G env r l) ((append_empty v w e2).0) x)))
+  nullable_sound env h (starting g r) c a x = absurd x.0
+  nullable_sound env h (named k) c a x = h k a x
+
+  module _ (S : Predictive G) where
+    pub derives_nullable : (n : ℕ) (k : K) (a : El T N (sorts k)) → Derives G n k a [] → G.name_nullable k ≡ true
+    unfolding Derives
+    derives_nullable zero k a x = absurd x
+    derives_nullable (suc n) k a x = S.empties k (nullable_sound (Derives G n) (derives_nullable n) (G.production k) (S.checks k) a x)
+
+    module _ (sp : (k : K) → El T N (sorts k) → List T → Type 0) (fr : K → ℕ → List T → Type 0) (env : ℕ → (k : K) → Reader G (El T N (sorts k))) (no_token : (k : K) (a : El T N (sorts k)) → sp k a [] → G.name_nullable k ≡ true)
+        (known : (c : ℕ) (k : K) → Reads (sp k) (fr k c) (deep T G.depth (sorts k)) c (λ t. G.name_first k (G.code t)) (λ t. G.name_continues k (G.code t)) (G.name_nullable k) (env c k)) where
+      empty_of : {s : Sort} (r : Rule T N K sorts s) → Checks G r → (a : El T N s) → RuleSpells G sp r a [] → nullable G r ≡ true
+      empty_of r c a x = nullable_sound sp no_token r c a x
+
+      abbrev Fr : {s : Sort} → Rule T N K sorts s → ℕ → List T → Type 0
+      Fr r b = RuleFront G sp fr r b
+
+      abbrev Good : {s : Sort} → Rule T N K sorts s → ℕ → Type 0
+      Good {s} r b = Reads (RuleSpells G sp r) (Fr r b) (deep T G.depth s) b (λ t. first G r (G.code t)) (λ t. continues G r (G.code t)) (nullable G r) (read_rule G env r b)
+
+      -- a rule that some token spells
+      abbrev Some_ : {s : Sort} → Rule T N K sorts s → ℕ → Type 0
+      Some_ {s} r b = Reads (RuleSpells G sp r) (Fr r b) (deep T G.depth s) b (λ t. first G r (G.code t)) (λ t. continues G r (G.code t)) false (read_rule G env r b)
+
+      some_of : {s : Sort} (r : Rule T N K sorts s) (b : ℕ) → nullable G r ≡ false → Good r b → Some_ r b
+      some_of {s} r b e R = subst (λ z. Reads (RuleSpells G sp r) (Fr r b) (deep T G.depth s) b (λ t. first G r (G.code t)) (λ t. continues G r (G.code t)) z (read_rule G env r b)) e R
+
+      pub reads : {s : Sort} (r : Rule T N K sorts s) (b : ℕ) → Checks G r → Good r b
+      reads (token f) b c = weaken (token_reads (token_in G.code f) (λ a. 0) b (λ a. le_refl 0)) (λ a u x. x) (λ a u x. x) (λ u x. x) (λ u x. x) (picked G.code f) (λ t k. k) (λ k. k)
+      reads (absent {s = s} a) b c = absent_reads a (deep T G.depth s) b (nat_le (deep T G.depth s a) b) (fits_down _ _) (fits_up _ _)
+      reads (sequence r q) b c = weaken (sequence_reads (reads r b c.1) (reads q b c.2) (apart S.within (continues G r) (first G q) c.0))
+          (λ a u x. x) (λ a u x. x) (λ u x. x) (λ u x. x) (λ t k. by_nullable (nullable G r) _ _ k) (λ t k. k) (λ k. k)
+      reads (choice r q) b c = choice_reads (some_of r b c.1 (reads r b c.2)) (reads q b c.3) (apart S.within (first G r) (first G q) c.0)
+      reads (view {s = s} {r = r'} f r) b c =
+          view_reads f (deep T G.depth r') b (reads r b c.1) (λ a le. le_trans (le_eq (c.0 a)) le) (λ a le. le_trans (le_eq (sym (c.0 a))) le)
+        where
+          le_eq : {x y : ℕ} → x ≡ y → x ≤ y
+          le_eq {x} e = subst (λ z. x ≤ z) e (le_refl x)
+      reads (node {s = s} {r = r'} f r) zero c =
+          no_node_reads (deep T G.depth r') (λ x u (a, e, y) le. let no : ⊥ = omega (arith, le, ap (deep T G.depth r') e, c.0 a) in no) (λ x y. empty_of (node f r) c x y)
+      reads (node {s = s} {r = r'} f r) (suc b) c =
+          view_reads f (deep T G.depth r') (suc b) (reads r b c.1) (λ a le. omega (arith, c.0 a, le)) (λ a le. omega (arith, c.0 a, le))
+      reads (many r) b c = many_reads (some_of r b c.1 (reads r b c.2)) (apart S.within (continues G r) (first G r) c.0)
+      reads (suffixes {s = s} {r = r'} r q f) zero c =
+          suffixes_zero (RuleSpells G sp q) (deep T G.depth r') f (some_of r 0 c.2 (reads r 0 c.5)) (λ t k. or_left (continues G r (G.code t)) _ k) (λ s y. never c.3 (empty_of q c.6 s y)) c.4
+      reads (suffixes {s = s} {r = r'} r q f) (suc b) c =
+          suffixes_reads f (λ l. nat_le (deep T G.depth s l) b) (some_of r (suc b) c.2 (reads r (suc b) c.5)) (some_of q b c.3 (reads q b c.6)) (apart S.within (continues G r) (first G q) c.0) (apart S.within (continues G q) (first G q) c.1) (λ l. fits_down _ _) (λ l. fits_up _ _) c.4
+      reads (suffix {s = s} {r = r'} r ok q f) zero c =
+          suffix_zero (RuleSpells G sp q) (deep T G.depth r') f (some_of r 0 c.1 (reads r 0 c.4)) (λ t k. or_left (continues G r (G.code t)) _ k) (λ s y. never c.2 (empty_of q c.5 s y)) ok c.3
+      reads (suffix {s = s} {r = r'} r ok q f) (suc b) c =
+          suffix_reads f ok (λ l. ok l && nat_le (deep T G.depth s l) b) (some_of r (suc b) c.1 (reads r (suc b) c.4)) (some_of q b c.2 (reads q b c.5)) (apart S.within (continues G r) (first G q) c.0)
+          (λ l k. let two = and_split (ok l) (nat_le (deep T G.depth s l) b) k in (two.0, fits_down _ _ two.1)) (λ l k le. and_both (ok l) _ k (fits_up _ _ le)) (λ l s w k g. c.3 l s k)
+      reads (starting g r) b c = starting_reads (λ t. g (G.code t)) (some_of r b c.0 (reads r b c.1))
+      reads (named k) b c = known b k
+
+    nothing_read : (k : K) (b : ℕ) → Reads (Derives G 0 k) (DerivesFront G 0 k b) (deep T G.depth (sorts k)) b (λ t. G.name_first k (G.code t)) (λ t. G.name_continues k (G.code t)) (G.name_nullable k) (read_within G 0 b k)
+    unfolding Derives DerivesFront read_within
+    nothing_read k b = record {
+      sound = λ ts x rest h. err_ok h;
+      refusal = λ ts rest h. ([], err_inj h, refl);
+      complete = λ x u rest h le off. absurd h;
+      reach = λ u v h. rw h (le_refl _);
+      starts = λ t u h. cons_nil h;
+      holds = λ x u h le. absurd h;
+      closed = λ u v h. (append_empty u v (sym h)).0;
+      nothing = refl;
+      empty = λ x h. absurd h;
+    }
+
+    -- with n steps, derivations of height n are read, and no others
+    pub read_within_reads : (n b : ℕ) (k : K) → Reads (Derives G n k) (DerivesFront G n k b) (deep T G.depth (sorts k)) b (λ t. G.name_first k (G.code t)) (λ t. G.name_continues k (G.code t)) (G.name_nullable k) (read_within G n b k)
+    unfolding read_within Derives DerivesFront
+    read_within_reads zero b k = nothing_read k b
+    read_within_reads (suc n) b k =
+        weaken (reads (Derives G n) (DerivesFront G n) (read_within G n) (derives_nullable n) (λ c k. read_within_reads n c k) (G.production k) b (S.checks k))
+        (λ a u x. x) (λ a u x. x) (λ u x. x) (λ u x. x) (λ t x. in_all_at G.size (first G (G.production k)) (G.name_first k) (G.code t) (S.begins k) (S.within t) x) (λ t x. in_all_at G.size (continues G (G.production k)) (G.name_continues k) (G.code t) (S.goes_on k) (S.within t) x) (S.empties k)

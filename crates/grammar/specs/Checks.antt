@@ -1,0 +1,94 @@
+-- What a grammar has to meet so that one token tells how to go on.
+use Rattle.std.specs.Prelude.{◌≡◌, ℕ, zero, suc, ◌<◌, max, Bool, true, false, ◌&&◌, ◌||◌, ◌⊎◌, if◌then◌else◌}
+use Rattle.grammar.specs.Rules.{Sort, El, deep, Rule, token, absent, sequence, choice, view, node, many, suffixes, suffix, starting, named, Grammar}
+
+abbrev pub none_below : ℕ → (ℕ → Bool) → Bool
+none_below zero f = true
+none_below (suc n) f = if f n then false else none_below n f
+
+abbrev pub included : ℕ → (ℕ → Bool) → (ℕ → Bool) → Bool
+included n f g = none_below n (λ k. if g k then false else f k)
+
+module _ {T N K : Type 0} {sorts : K → Sort} (G : Grammar T N K sorts) where
+  -- whether no token can spell the rule
+  abbrev pub nullable : {s : Sort} → Rule T N K sorts s → Bool
+  nullable (token f) = false
+  nullable (absent a) = true
+  nullable (sequence r q) = nullable r && nullable q
+  nullable (choice r q) = nullable q
+  nullable (view f r) = nullable r
+  nullable (node f r) = nullable r
+  nullable (many r) = true
+  nullable (suffixes r q f) = false
+  nullable (suffix r ok q f) = false
+  nullable (starting g r) = false
+  nullable (named k) = G.name_nullable k
+
+  -- the classes of tokens that begin it
+  abbrev pub first : {s : Sort} → Rule T N K sorts s → ℕ → Bool
+  first (token f) t = f t
+  first (absent a) t = false
+  first (sequence r q) t = if nullable r then first r t || first q t else first r t
+  first (choice r q) t = first r t || first q t
+  first (view f r) t = first r t
+  first (node f r) t = first r t
+  first (many r) t = first r t
+  first (suffixes r q f) t = first r t
+  first (suffix r ok q f) t = first r t
+  first (starting g r) t = g t && first r t
+  first (named k) t = G.name_first k t
+
+  -- the classes of tokens that can go on behind a whole one
+  abbrev pub continues : {s : Sort} → Rule T N K sorts s → ℕ → Bool
+  continues (token f) t = false
+  continues (absent a) t = false
+  continues (sequence r q) t = continues q t || (nullable q && continues r t)
+  continues (choice r q) t = continues r t || (continues q t || (nullable q && first r t))
+  continues (view f r) t = continues r t
+  continues (node f r) t = continues r t
+  continues (many r) t = continues r t || first r t
+  continues (suffixes r q f) t = continues r t || (continues q t || first q t)
+  continues (suffix r ok q f) t = continues r t || (continues q t || first q t)
+  continues (starting g r) t = continues r t
+  continues (named k) t = G.name_continues k t
+
+  -- no class is in both
+  abbrev pub Disjoint : (ℕ → Bool) → (ℕ → Bool) → Type 0
+  Disjoint c f = none_below (G.size) (λ n. c n && f n) ≡ true
+
+  abbrev pub Checks : {s : Sort} → Rule T N K sorts s → Type 0
+  Checks (token f) = Unit {0}
+  Checks (absent a) = Unit {0}
+  Checks (sequence r q) = Disjoint (continues r) (first q) × Checks r × Checks q
+  Checks (choice r q) = Disjoint (first r) (first q) × (nullable r ≡ false) × Checks r × Checks q
+  Checks (view {s = s} {r = r'} f r) = ((a : El T N s) → deep T G.depth r' (f a) ≡ deep T G.depth s a) × Checks r
+  Checks (node {s = s} {r = r'} f r) = ((a : El T N s) → deep T G.depth r' (f a) ≡ suc (deep T G.depth s a)) × Checks r
+  Checks (many r) = Disjoint (continues r) (first r) × (nullable r ≡ false) × Checks r
+  Checks (suffixes {s = s} {r = r'} r q f) = Disjoint (continues r) (first q) × Disjoint (continues q) (first q) × (nullable r ≡ false) × (nullable q ≡ false)
+      × ((l : El T N s) (x : El T N r') → deep T G.depth s (f l x) ≡ suc (max (deep T G.depth s l) (deep T G.depth r' x))) × Checks r × Checks q
+  Checks (suffix {s = s} {r = r'} r ok q f) = Disjoint (continues r) (first q) × (nullable r ≡ false) × (nullable q ≡ false)
+      × ((l : El T N s) (x : El T N r') → ok l ≡ true → deep T G.depth s (f l x) ≡ suc (max (deep T G.depth s l) (deep T G.depth r' x))) × Checks r × Checks q
+  Checks (starting g r) = (nullable r ≡ false) × Checks r
+  Checks (named k) = Unit {0}
+
+  -- each name in it stands under a node of it, or behind a token of it
+  abbrev pub Guarded : {s : Sort} → Rule T N K sorts s → Type 0
+  Guarded (token f) = Unit {0}
+  Guarded (absent a) = Unit {0}
+  Guarded (sequence r q) = Guarded r × (Guarded q ⊎ (nullable r ≡ false))
+  Guarded (choice r q) = Guarded r × Guarded q
+  Guarded (view f r) = Guarded r
+  Guarded (node f r) = Unit {0}
+  Guarded (many r) = Guarded r
+  Guarded (suffixes r q f) = Guarded r
+  Guarded (suffix r ok q f) = Guarded r
+  Guarded (starting g r) = Guarded r
+  Guarded (named k) = ⊥
+
+  pub record Predictive : Type 0 where
+    pub checks : (k : K) → Checks (G.production k)
+    pub guarded : (k : K) → Guarded (G.production k)
+    pub within : (t : T) → G.code t < G.size
+    pub begins : (k : K) → included (G.size) (first (G.production k)) (G.name_first k) ≡ true
+    pub goes_on : (k : K) → included (G.size) (continues (G.production k)) (G.name_continues k) ≡ true
+    pub empties : (k : K) → nullable (G.production k) ≡ true → G.name_nullable k ≡ true

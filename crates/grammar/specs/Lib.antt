@@ -1,0 +1,9 @@
+pub mod Forms
+pub mod FormReaders
+pub mod Rules
+pub mod Spelling
+pub mod Checks
+pub mod Readers
+pub mod Reading
+pub mod Laws
+pub mod Sums
