@@ -1,7 +1,7 @@
 -- A loop that keeps what it found.
 use Rattle.std.proofs.Common.{◌≡◌, ℕ, zero, suc, Bool, true, false, List, [], ◌∷◌, ◌++◌, Result, Ok, Err, refl, sym, ap, ◌∙◌, append_assoc, append-nil}
 use Rattle.std.specs.Prelude.{if◌then◌else◌}
-use Rattle.grammar.specs.FormReaders.{next_in, and_then, read_many, read_many_from}
+use Rattle.grammar.specs.FormReaders.{and_then, next_in, read_many, read_many_from}
 
 module _ {T A : Type 0} (first : T → Bool) (p : List T → Result (A × List T) (List T)) where
   abbrev behind : List A → Result (List A × List T) (List T) → Result (List A × List T) (List T)

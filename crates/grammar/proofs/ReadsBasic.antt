@@ -2,7 +2,7 @@
 use Rattle.std.proofs.Common.{◌≡◌, ℕ, ◌≤◌, Bool, true, false, ◌&&◌, ◌||◌, List, [], ◌∷◌, ◌++◌, length, Option, Some, None, Result, Ok, Err, inl, inr, refl, sym, ap, ◌∙◌, subst, arith, le_refl, le_trans, true≢false, is_some}
 use Rattle.std.specs.Prelude.{if◌then◌else◌}
 use Rattle.grammar.specs.Forms.{TokenSpells, TokenFront, AbsentSpells, AbsentFront, ChoiceSpells, ChoiceFront, ViewSpells}
-use Rattle.grammar.specs.FormReaders.{NextNotIn, Apart, remaining, and_then, read_one_token, read_token, read_absent, read_choice, read_view, Reads}
+use Rattle.grammar.specs.FormReaders.{NextNotIn, Apart, remaining, Reads, and_then, read_one_token, read_token, read_absent, read_choice, read_view}
 use Rattle.grammar.proofs.Lists.{ok_err, err_ok, ok_inj, err_inj, cons_nil, nil_cons, heads, tails, bind_ok, bind_err, append_empty, or_left, or_right, and_both, cases_if, if_true, if_false, le_of_eq}
 
 module _ {T A : Type 0} (f : T → Option A) (d : A → ℕ) (b : ℕ) (flat : (a : A) → d a ≤ 0) where

@@ -1,8 +1,8 @@
 -- Any number of times.
 use Rattle.std.proofs.Common.{◌≡◌, ℕ, zero, suc, ◌≤◌, Bool, true, false, ◌||◌, List, [], ◌∷◌, ◌++◌, length, Result, Ok, Err, inl, inr, refl, sym, ap, ◌∙◌, subst, append_assoc, append-nil, length-append, arith, le_refl, le_trans, true≢false}
 use Rattle.std.specs.Prelude.{if◌then◌else◌}
-use Rattle.grammar.specs.Forms.{ManySpells, ManyFront, deepest}
-use Rattle.grammar.specs.FormReaders.{read_many, NextNotIn, Apart, remaining, and_then, Reads}
+use Rattle.grammar.specs.Forms.{ManySpells, deepest, ManyFront}
+use Rattle.grammar.specs.FormReaders.{NextNotIn, Apart, remaining, Reads, and_then, read_many}
 use Rattle.grammar.proofs.Lists.{ok_err, ok_inj, cons_nil, heads, bind_ok, bind_err, cut, or_left, or_right, cases_if, if_true, if_false, le_of_eq}
 
 module _ {T A : Type 0} {W : A → List T → Type 0} {F : List T → Type 0} {d : A → ℕ} {b : ℕ} {first continues : T → Bool} {p : List T → Result (A × List T) (List T)}

@@ -1,20 +1,19 @@
 -- The reader of a sound table reads it.
-use Rattle.std.proofs.Common.{◌≡◌, ℕ, zero, suc, ◌≤◌, ◌<◌, Bool, true, false, ◌&&◌, ◌||◌, List, [], Some, None, inl, inr, refl, sym, ap, ◌∙◌, subst, arith, le_refl, le_trans, true≢false, is_some, eq-or-lt_of_le, le_of_suc-le-suc}
+use Rattle.std.proofs.Common.{◌≡◌, ℕ, zero, suc, ◌≤◌, ◌<◌, Bool, true, false, ◌&&◌, ◌||◌, List, [], ◌∷◌, Some, None, inl, inr, refl, sym, ap, ◌∙◌, subst, arith, le_refl, le_trans, true≢false, is_some, eq-or-lt_of_le, le_of_suc-le-suc}
 use Rattle.std.specs.Prelude.{nat_le, if◌then◌else◌}
 use Rattle.grammar.specs.Forms.{ChainSpells}
-use Rattle.grammar.specs.FormReaders.{Reads, Apart}
+use Rattle.grammar.specs.FormReaders.{Apart, Reads, under}
 use Rattle.grammar.specs.Rules.{Sort, El, deep, Rule, token, absent, sequence, choice, view, node, many, suffixes, suffix, starting, named, Grammar}
 use Rattle.grammar.specs.Spelling.{token_in, RuleSpells, RuleFront, Derives, DerivesFront}
 use Rattle.grammar.specs.Checks.{nullable, first, continues, Checks, Predictive, Disjoint, none_below, included}
 use Rattle.grammar.specs.Readers.{Reader, read_rule, read_within}
-use Rattle.grammar.proofs.Lists.{nil_cons, cons_nil, err_ok, err_inj, append_empty, and_both, and_split, or_left}
+use Rattle.grammar.proofs.Lists.{err_ok, err_inj, cons_nil, nil_cons, append_empty, and_both}
 use Rattle.grammar.proofs.ReadsSequence.{sequence_reads}
 use Rattle.grammar.proofs.ReadsBasic.{token_reads, absent_reads, choice_reads, view_reads, no_node_reads}
 use Rattle.grammar.proofs.ReadsMany.{many_reads}
-use Rattle.grammar.proofs.ReadsSuffixes.{suffixes_reads}
-use Rattle.grammar.proofs.ReadsSuffix.{suffix_reads}
 use Rattle.grammar.proofs.ReadsStarting.{starting_reads}
-use Rattle.grammar.proofs.Weakening.{weaken, suffixes_zero, suffix_zero}
+use Rattle.grammar.proofs.Weakening.{weaken}
+use Rattle.grammar.proofs.ReadsLevels.{suffixes_reads_at, suffix_reads_at}
 
 fits_up : (m n : ℕ) → m ≤ n → nat_le m n ≡ true
 fits_up m n h = search (arith, h)
@@ -74,9 +73,9 @@ module _ {T N K : Type 0} {sorts : K → Sort} (G : Grammar T N K sorts) where
   nullable_sound env h (view f r) c a (b, e, x) = nullable_sound env h r c.1 b x
   nullable_sound env h (node f r) c a (b, e, x) = nullable_sound env h r c.1 b x
   nullable_sound env h (many r) c a x = refl
-  nullable_sound env h (suffixes r q f) c a (k, x) = absurd (chain_token (RuleSpells G env r) (RuleSpells G env q) f (λ b y. never c.2 (nullable_sound env h r c.5 b y)) (λ b y. never c.3 (nullable_sound env h q c.6 b y)) k a x)
-  nullable_sound env h (suffix r ok q f) c a (inl x) = absurd (never c.1 (nullable_sound env h r c.4 a x))
-  nullable_sound env h (suffix r ok q f) c a (inr (l, s, v, w, e1, e2, k, x, y)) =
+  nullable_sound env h (suffixes extra r q f) c a (k, x) = absurd (chain_token (RuleSpells G env r) (RuleSpells G env q) f (λ b y. never c.2 (nullable_sound env h r c.5 b y)) (λ b y. never c.3 (nullable_sound env h q c.6 b y)) k a x)
+  nullable_sound env h (suffix extra r ok q f) c a (inl x) = absurd (never c.1 (nullable_sound env h r c.4 a x))
+  nullable_sound env h (suffix extra r ok q f) c a (inr (l, s, v, w, e1, e2, k, x, y)) =
       absurd (never c.1 (nullable_sound env h r c.4 l (subst (RuleSpells G env r l) ((append_empty v w e2).0) x)))
   nullable_sound env h (starting g r) c a x = absurd x.0
   nullable_sound env h (named k) c a x = h k a x
@@ -121,15 +120,11 @@ module _ {T N K : Type 0} {sorts : K → Sort} (G : Grammar T N K sorts) where
       reads (node {s = s} {r = r'} f r) (suc b) c =
           view_reads f (deep T G.depth r') (suc b) (reads r b c.1) (λ a le. omega (arith, c.0 a, le)) (λ a le. omega (arith, c.0 a, le))
       reads (many r) b c = many_reads (some_of r b c.1 (reads r b c.2)) (apart S.within (continues G r) (first G r) c.0)
-      reads (suffixes {s = s} {r = r'} r q f) zero c =
-          suffixes_zero (RuleSpells G sp q) (deep T G.depth r') f (some_of r 0 c.2 (reads r 0 c.5)) (λ t k. or_left (continues G r (G.code t)) _ k) (λ s y. never c.3 (empty_of q c.6 s y)) c.4
-      reads (suffixes {s = s} {r = r'} r q f) (suc b) c =
-          suffixes_reads f (λ l. nat_le (deep T G.depth s l) b) (some_of r (suc b) c.2 (reads r (suc b) c.5)) (some_of q b c.3 (reads q b c.6)) (apart S.within (continues G r) (first G q) c.0) (apart S.within (continues G q) (first G q) c.1) (λ l. fits_down _ _) (λ l. fits_up _ _) c.4
-      reads (suffix {s = s} {r = r'} r ok q f) zero c =
-          suffix_zero (RuleSpells G sp q) (deep T G.depth r') f (some_of r 0 c.1 (reads r 0 c.4)) (λ t k. or_left (continues G r (G.code t)) _ k) (λ s y. never c.2 (empty_of q c.5 s y)) ok c.3
-      reads (suffix {s = s} {r = r'} r ok q f) (suc b) c =
-          suffix_reads f ok (λ l. ok l && nat_le (deep T G.depth s l) b) (some_of r (suc b) c.1 (reads r (suc b) c.4)) (some_of q b c.2 (reads q b c.5)) (apart S.within (continues G r) (first G q) c.0)
-          (λ l k. let two = and_split (ok l) (nat_le (deep T G.depth s l) b) k in (two.0, fits_down _ _ two.1)) (λ l k le. and_both (ok l) _ k (fits_up _ _ le)) (λ l s w k g. c.3 l s k)
+      reads (suffixes {s = s} {r = r'} extra r q f) b c =
+          suffixes_reads_at extra b f (some_of r b c.2 (reads r b c.5)) (λ l. some_of q l c.3 (reads q l c.6)) (apart S.within (continues G r) (first G q) c.0) (apart S.within (continues G q) (first G q) c.1) c.4 (under (suc extra) b) refl
+      reads (suffix {s = s} {r = r'} extra r ok q f) b c =
+          let R = some_of r b c.1 (reads r b c.4) in
+          suffix_reads_at extra b f R (λ l. some_of q l c.2 (reads q l c.5)) ok (λ l u t v h le k here. R.complete l u (t ∷ v) h le (λ i. apart S.within (continues G r) (first G q) c.0 t i here)) c.3 (under (suc extra) b) refl
       reads (starting g r) b c = starting_reads (λ t. g (G.code t)) (some_of r b c.0 (reads r b c.1))
       reads (named k) b c = known b k
 

@@ -1,7 +1,7 @@
 -- One rule after another.
 use Rattle.std.proofs.Common.{◌≡◌, ℕ, ◌≤◌, max, Bool, true, ◌&&◌, ◌||◌, List, [], ◌∷◌, ◌++◌, length, Result, Ok, Err, inl, inr, refl, sym, ap, ◌∙◌, subst, append_assoc, append-nil, arith, le_refl, le_trans}
 use Rattle.grammar.specs.Forms.{SequenceSpells, SequenceFront}
-use Rattle.grammar.specs.FormReaders.{NextNotIn, Apart, remaining, and_then, read_sequence, Reads}
+use Rattle.grammar.specs.FormReaders.{NextNotIn, Apart, remaining, Reads, and_then, read_sequence}
 use Rattle.grammar.proofs.Lists.{ok_err, ok_inj, heads, bind_ok, bind_err, cut, append_empty, or_left, or_right, and_both}
 
 module _ {T A B : Type 0} {W : A → List T → Type 0} {F : List T → Type 0} {d : A → ℕ} {V : B → List T → Type 0} {G : List T → Type 0} {e : B → ℕ} {b : ℕ}

@@ -2,7 +2,7 @@
 use Rattle.std.proofs.Common.{◌≡◌, ℕ, ◌≤◌, Bool, true, false, ◌&&◌, List, [], ◌∷◌, ◌++◌, length, Result, Ok, Err, inl, inr, refl, sym, ap, ◌∙◌, subst, le_refl, le_trans, true≢false}
 use Rattle.std.specs.Prelude.{if◌then◌else◌}
 use Rattle.grammar.specs.Forms.{StartsIn, StartingSpells, StartingFront}
-use Rattle.grammar.specs.FormReaders.{read_starting, NextNotIn, remaining, Reads}
+use Rattle.grammar.specs.FormReaders.{NextNotIn, remaining, Reads, read_starting}
 use Rattle.grammar.proofs.Lists.{err_ok, err_inj, cons_nil, heads, and_both, cases_if, if_true, le_of_eq}
 
 module _ {T A : Type 0} (g : T → Bool) {W : A → List T → Type 0} {F : List T → Type 0} {d : A → ℕ} {b : ℕ} {first continues : T → Bool} {p : List T → Result (A × List T) (List T)}

@@ -1,17 +1,17 @@
 -- A rule with at most one part behind it.
-use Rattle.std.proofs.Common.{◌≡◌, ℕ, suc, ◌≤◌, max, Bool, true, false, ◌&&◌, ◌||◌, List, [], ◌∷◌, ◌++◌, length, Result, Ok, Err, inl, inr, refl, sym, ap, ◌∙◌, subst, append_assoc, append-nil, arith, le_refl, le_trans, true≢false}
+use Rattle.std.proofs.Common.{◌≡◌, ℕ, suc, ◌+◌, ◌≤◌, max, Bool, true, false, ◌&&◌, ◌||◌, List, [], ◌∷◌, ◌++◌, length, Result, Ok, Err, ◌⊎◌, inl, inr, refl, sym, ap, ◌∙◌, subst, append_assoc, append-nil, arith, le_refl, le_trans, true≢false}
 use Rattle.std.specs.Prelude.{if◌then◌else◌}
-use Rattle.grammar.specs.Forms.{SuffixSpells, SuffixFront}
-use Rattle.grammar.specs.FormReaders.{read_one_suffix, read_suffix, NextNotIn, Apart, remaining, and_then, Reads}
+use Rattle.grammar.specs.Forms.{SuffixSpells, BehindSuffix}
+use Rattle.grammar.specs.FormReaders.{NextNotIn, remaining, Reads, and_then, read_one_suffix, read_suffix}
 use Rattle.grammar.proofs.Lists.{ok_err, ok_inj, heads, bind_ok, bind_err, cut, append_empty, or_left, or_right, and_split, and_both, cases_if, if_true, if_false, le_of_eq}
 
-module _ {T A S : Type 0} {W : A → List T → Type 0} {F : List T → Type 0} {d : A → ℕ} {V : S → List T → Type 0} {G : List T → Type 0} {e : S → ℕ} {b : ℕ}
+module _ {T A S : Type 0} {W : A → List T → Type 0} {F : List T → Type 0} {d : A → ℕ} {V : S → List T → Type 0} {G : List T → Type 0} {e : S → ℕ} {b : ℕ} (B extra : ℕ) (lv : B ≡ suc (extra + b))
     {first1 cont1 first2 cont2 : T → Bool} {p : List T → Result (A × List T) (List T)} {q : List T → Result (S × List T) (List T)}
     (f : A → S → A) (ok : A → Bool) (fits : A → Bool)
-    (R : Reads W F d (suc b) first1 cont1 false p) (Q : Reads V G e b first2 cont2 false q)
-    (apart : Apart cont1 first2)
+    (R : Reads W F d B first1 cont1 false p) (Q : Reads V G e b first2 cont2 false q)
+    (stops : (l : A) (u : List T) (t : T) (r : List T) → W l u → d l ≤ B → ok l ≡ true → first2 t ≡ true → p (u ++ t ∷ r) ≡ Ok (l, t ∷ r))
     (fits_is : (l : A) → fits l ≡ true → (ok l ≡ true) × (d l ≤ b)) (fits_if : (l : A) → ok l ≡ true → d l ≤ b → fits l ≡ true)
-    (over : (l : A) (s : S) (w : List T) → ok l ≡ true → V s w → d (f l s) ≡ suc (max (d l) (e s))) where
+    (over : (l : A) (s : S) (w : List T) → ok l ≡ true → V s w → d (f l s) ≡ suc (extra + max (d l) (e s))) where
   abbrev pub tail_cont : T → Bool
   tail_cont t = cont1 t || (cont2 t || first2 t)
 
@@ -24,17 +24,17 @@ module _ {T A S : Type 0} {W : A → List T → Type 0} {F : List T → Type 0} 
   abbrev Whole : A → List T → Type 0
   Whole = SuffixSpells W ok V f
 
-  abbrev Front : List T → Type 0
-  Front = SuffixFront W ok d b F G
+  abbrev pub Front : List T → Type 0
+  Front u = F u ⊎ BehindSuffix W ok d b G u
 
   abbrev Got : List T → A → List T → Type 0
-  Got ts x rest = (u : List T) × (ts ≡ u ++ rest) × Whole x u × (d x ≤ suc b)
+  Got ts x rest = (u : List T) × (ts ≡ u ++ rest) × Whole x u × (d x ≤ B)
 
-  one_sound : (l : A) (u ts : List T) (x : A) (rest : List T) → W l u → d l ≤ suc b → one l ts ≡ Ok (x, rest) → Got (u ++ ts) x rest
+  one_sound : (l : A) (u ts : List T) (x : A) (rest : List T) → W l u → d l ≤ B → one l ts ≡ Ok (x, rest) → Got (u ++ ts) x rest
   one_sound l u [] x rest h le k =
       let same = ok_inj k in
       let e0 : l ≡ x = ap (λ z. z.0) same in
-      (u, ap (λ z. u ++ z.1) same, inl (subst (λ z. W z u) e0 h), subst (λ z. d z ≤ suc b) e0 le)
+      (u, ap (λ z. u ++ z.1) same, inl (subst (λ z. W z u) e0 h), subst (λ z. d z ≤ B) e0 le)
   one_sound l u (t ∷ r) x rest h le k =
       elim (cases_if (first2 t && fits l) (and_then (q (t ∷ r)) (λ s after. Ok (f l s, after))) (Ok (l, t ∷ r)) (Ok (x, rest)) k) [
         | inl j ↦
@@ -47,12 +47,12 @@ module _ {T A S : Type 0} {W : A → List T → Type 0} {F : List T → Type 0} 
               u ++ g.0,
               ap (λ z. u ++ z) (g.1 ∙ ap (λ z. g.0 ++ z.1) same) ∙ sym (append_assoc u g.0 rest),
               inr (l, two.0, u, g.0, sym e0, refl, low.0, h, g.2),
-              subst (λ z. d z ≤ suc b) e0 (omega (arith, deep, low.1, g.3)),
+              subst (λ z. d z ≤ B) e0 (omega (arith, deep, low.1, g.3)),
             )
         | inr j ↦
             let same = ok_inj j.1 in
             let e0 : l ≡ x = ap (λ z. z.0) same in
-            (u, ap (λ z. u ++ z.1) same, inl (subst (λ z. W z u) e0 h), subst (λ z. d z ≤ suc b) e0 le)
+            (u, ap (λ z. u ++ z.1) same, inl (subst (λ z. W z u) e0 h), subst (λ z. d z ≤ B) e0 le)
       ]
 
   tail_sound : (ts : List T) (x : A) (rest : List T) → read ts ≡ Ok (x, rest) → Got ts x rest
@@ -98,14 +98,14 @@ module _ {T A S : Type 0} {W : A → List T → Type 0} {F : List T → Type 0} 
 
   begin : (l : A) (u : List T) (t : T) (w v : List T) → W l u → ok l ≡ true → d l ≤ b → first2 t ≡ true → read (u ++ ((t ∷ w) ++ v)) ≡ and_then (q ((t ∷ w) ++ v)) (λ s after. Ok (f l s, after))
   begin l u t w v h k le here =
-      ap (λ r. and_then r one) (R.complete l u ((t ∷ w) ++ v) h (omega (arith, le)) (λ i. apart t i here))
+      ap (λ r. and_then r one) (stops l u t (w ++ v) h (omega (arith, le)) k here)
       ∙ if_true (first2 t && fits l) (and_then (q (t ∷ (w ++ v))) (λ s after. Ok (f l s, after))) (Ok (l, t ∷ (w ++ v))) (and_both (first2 t) (fits l) here (fits_if l k le))
 
-  tail_complete : (x : A) (u rest : List T) → Whole x u → d x ≤ suc b → NextNotIn tail_cont rest → read (u ++ rest) ≡ Ok (x, rest)
+  tail_complete : (x : A) (u rest : List T) → Whole x u → d x ≤ B → NextNotIn tail_cont rest → read (u ++ rest) ≡ Ok (x, rest)
   tail_complete x u rest (inl h) le off = ap (λ r. and_then r one) (R.complete x u rest h le (off_1 rest off)) ∙ one_end x rest off
   tail_complete x u rest (inr (l, s, v, [], e1, e2, k, h, g)) le off = absurd (true≢false (sym (Q.empty s g)))
   tail_complete x u rest (inr (l, s, v, t ∷ w, e1, e2, k, h, g)) le off =
-      let deep : d x ≡ suc (max (d l) (e s)) = ap d e1 ∙ over l s (t ∷ w) k g in
+      let deep : d x ≡ suc (extra + max (d l) (e s)) = ap d e1 ∙ over l s (t ∷ w) k g in
       let le2 : e s ≤ b = omega (arith, deep, le) in
       let again : u ++ rest ≡ v ++ ((t ∷ w) ++ rest) = ap (λ z. z ++ rest) e2 ∙ append_assoc v (t ∷ w) rest in
       ap read again ∙ begin l v t w rest h k (omega (arith, deep, le)) (Q.starts t w (Q.holds s (t ∷ w) g le2))
@@ -140,10 +140,10 @@ module _ {T A S : Type 0} {W : A → List T → Type 0} {F : List T → Type 0} 
   tail_starts t u (inr (l, [], w, e1, k, h, le, g)) = absurd (true≢false (sym (R.empty l h)))
   tail_starts t u (inr (l, t' ∷ x, w, e1, k, h, le, g)) = subst (λ z. first1 z ≡ true) (sym (heads e1)) (R.starts t' x (R.holds l (t' ∷ x) h (omega (arith, le))))
 
-  tail_holds : (x : A) (u : List T) → Whole x u → d x ≤ suc b → Front u
+  tail_holds : (x : A) (u : List T) → Whole x u → d x ≤ B → Front u
   tail_holds x u (inl h) le = inl (R.holds x u h le)
   tail_holds x u (inr (l, s, v, w, e1, e2, k, h, g)) le =
-      let deep : d x ≡ suc (max (d l) (e s)) = ap d e1 ∙ over l s w k g in
+      let deep : d x ≡ suc (extra + max (d l) (e s)) = ap d e1 ∙ over l s w k g in
       inr (l, v, w, e2, k, h, omega (arith, deep, le), Q.holds s w g (omega (arith, deep, le)))
 
   tail_closed : (u v : List T) → Front (u ++ v) → Front u
@@ -157,5 +157,5 @@ module _ {T A S : Type 0} {W : A → List T → Type 0} {F : List T → Type 0} 
   tail_empty x (inl h) = R.empty x h
   tail_empty x (inr (l, s, v, w, e1, e2, k, h, g)) = R.empty l (subst (W l) ((append_empty v w e2).0) h)
 
-  pub suffix_reads : Reads (SuffixSpells W ok V f) (SuffixFront W ok d b F G) d (suc b) first1 tail_cont false (read_suffix first2 fits f p q)
+  pub suffix_reads : Reads (SuffixSpells W ok V f) Front d B first1 tail_cont false (read_suffix first2 fits f p q)
   suffix_reads = record { sound = tail_sound; refusal = tail_fault; complete = tail_complete; reach = tail_reach; starts = tail_starts; holds = tail_holds; closed = tail_closed; nothing = inl R.nothing; empty = tail_empty }

@@ -1,17 +1,17 @@
 -- A rule with parts behind it.
-use Rattle.std.proofs.Common.{◌≡◌, ℕ, zero, suc, ◌≤◌, max, Bool, true, false, ◌&&◌, ◌||◌, List, [], ◌∷◌, ◌++◌, length, Result, Ok, Err, inl, inr, refl, sym, ap, ◌∙◌, subst, append_assoc, append-nil, length-append, arith, le_refl, le_trans, true≢false}
+use Rattle.std.proofs.Common.{◌≡◌, ℕ, zero, suc, ◌+◌, ◌≤◌, max, Bool, true, false, ◌&&◌, ◌||◌, List, [], ◌∷◌, ◌++◌, length, Result, Ok, Err, ◌⊎◌, inl, inr, refl, sym, ap, ◌∙◌, subst, append_assoc, append-nil, length-append, arith, le_refl, le_trans, true≢false}
 use Rattle.std.specs.Prelude.{if◌then◌else◌}
-use Rattle.grammar.specs.Forms.{ChainSpells, SuffixesSpell, SuffixesFront}
-use Rattle.grammar.specs.FormReaders.{read_more_suffixes, read_suffixes, NextNotIn, Apart, remaining, and_then, Reads}
+use Rattle.grammar.specs.Forms.{ChainSpells, SuffixesSpell, BehindSuffixes}
+use Rattle.grammar.specs.FormReaders.{NextNotIn, Apart, remaining, Reads, and_then, read_more_suffixes, read_suffixes}
 use Rattle.grammar.proofs.Lists.{ok_err, ok_inj, heads, bind_ok, bind_err, cut, append_empty, or_left, or_right, and_split, and_both, cases_if, if_true, if_false, le_of_eq}
 
-module _ {T A S : Type 0} {W : A → List T → Type 0} {F : List T → Type 0} {d : A → ℕ} {V : S → List T → Type 0} {G : List T → Type 0} {e : S → ℕ} {b : ℕ}
+module _ {T A S : Type 0} {W : A → List T → Type 0} {F : List T → Type 0} {d : A → ℕ} {V : S → List T → Type 0} {G : List T → Type 0} {e : S → ℕ} {b : ℕ} (B extra : ℕ) (lv : B ≡ suc (extra + b))
     {first1 cont1 first2 cont2 : T → Bool} {p : List T → Result (A × List T) (List T)} {q : List T → Result (S × List T) (List T)}
     (f : A → S → A) (fits : A → Bool)
-    (R : Reads W F d (suc b) first1 cont1 false p) (Q : Reads V G e b first2 cont2 false q)
+    (R : Reads W F d B first1 cont1 false p) (Q : Reads V G e b first2 cont2 false q)
     (apart1 : Apart cont1 first2) (apart2 : Apart cont2 first2)
     (fits_is : (l : A) → fits l ≡ true → d l ≤ b) (fits_if : (l : A) → d l ≤ b → fits l ≡ true)
-    (over : (l : A) (s : S) → d (f l s) ≡ suc (max (d l) (e s))) where
+    (over : (l : A) (s : S) → d (f l s) ≡ suc (extra + max (d l) (e s))) where
   abbrev pub left_cont : T → Bool
   left_cont t = cont1 t || (cont2 t || first2 t)
 
@@ -24,17 +24,17 @@ module _ {T A S : Type 0} {W : A → List T → Type 0} {F : List T → Type 0} 
   abbrev Whole : A → List T → Type 0
   Whole = SuffixesSpell W V f
 
-  abbrev Front : List T → Type 0
-  Front = SuffixesFront W V f d b F G
+  abbrev pub Front : List T → Type 0
+  Front u = F u ⊎ BehindSuffixes W V f d b G u
 
   -- what the loop gets behind a whole that was read
   abbrev Got : List T → List T → A → List T → Type 0
-  Got u0 ts x rest = (w : List T) × (ts ≡ w ++ rest) × Whole x (u0 ++ w) × (d x ≤ suc b)
+  Got u0 ts x rest = (w : List T) × (ts ≡ w ++ rest) × Whole x (u0 ++ w) × (d x ≤ B)
 
-  stop : (u0 ts : List T) (l x : A) (rest : List T) → Whole l u0 → d l ≤ suc b → (l ≡ x) → (ts ≡ rest) → Got u0 ts x rest
-  stop u0 ts l x rest h le e1 e2 = ([], e2, subst (λ z. Whole z (u0 ++ [])) e1 (subst (Whole l) (sym (append-nil u0)) h), subst (λ z. d z ≤ suc b) e1 le)
+  stop : (u0 ts : List T) (l x : A) (rest : List T) → Whole l u0 → d l ≤ B → (l ≡ x) → (ts ≡ rest) → Got u0 ts x rest
+  stop u0 ts l x rest h le e1 e2 = ([], e2, subst (λ z. Whole z (u0 ++ [])) e1 (subst (Whole l) (sym (append-nil u0)) h), subst (λ z. d z ≤ B) e1 le)
 
-  loop_sound : (n : ℕ) (l : A) (u0 ts : List T) (x : A) (rest : List T) → Whole l u0 → d l ≤ suc b → loop n l ts ≡ Ok (x, rest) → Got u0 ts x rest
+  loop_sound : (n : ℕ) (l : A) (u0 ts : List T) (x : A) (rest : List T) → Whole l u0 → d l ≤ B → loop n l ts ≡ Ok (x, rest) → Got u0 ts x rest
   loop_sound zero l u0 ts x rest h le k = stop u0 ts l x rest h le (ap (λ z. z.0) (ok_inj k)) (ap (λ z. z.1) (ok_inj k))
   loop_sound (suc n) l u0 [] x rest h le k = stop u0 [] l x rest h le (ap (λ z. z.0) (ok_inj k)) (ap (λ z. z.1) (ok_inj k))
   loop_sound (suc n) l u0 (t ∷ r) x rest h le k =
@@ -44,9 +44,9 @@ module _ {T A S : Type 0} {W : A → List T → Type 0} {F : List T → Type 0} 
             let g = Q.sound (t ∷ r) one.0 one.1 one.2 in
             let low = fits_is l ((and_split (first2 t) (fits l) j.0).1) in
             let more : Whole (f l one.0) (u0 ++ g.0) = (suc h.0, (l, one.0, u0, g.0, refl, refl, h.1, g.2)) in
-            let deep : d (f l one.0) ≤ suc b = omega (arith, over l one.0, low, g.3) in
-            let (w, e1, m, le2) = loop_sound n (f l one.0) (u0 ++ g.0) one.1 x rest more deep one.3 in
-            (g.0 ++ w, g.1 ∙ ap (λ z. g.0 ++ z) e1 ∙ sym (append_assoc g.0 w rest), subst (Whole x) (append_assoc u0 g.0 w) m, le2)
+            let deep : d (f l one.0) ≤ B = omega (arith, over l one.0, low, g.3) in
+            let (w', e1, m, le2) = loop_sound n (f l one.0) (u0 ++ g.0) one.1 x rest more deep one.3 in
+            (g.0 ++ w', g.1 ∙ ap (λ z. g.0 ++ z) e1 ∙ sym (append_assoc g.0 w' rest), subst (Whole x) (append_assoc u0 g.0 w') m, le2)
         | inr j ↦ stop u0 (t ∷ r) l x rest h le (ap (λ z. z.0) (ok_inj j.1)) (ap (λ z. z.1) (ok_inj j.1))
       ]
 
@@ -68,7 +68,7 @@ module _ {T A S : Type 0} {W : A → List T → Type 0} {F : List T → Type 0} 
         | inr j ↦ ok_err j.1
       ]
 
-  left_sound : (ts : List T) (x : A) (rest : List T) → read ts ≡ Ok (x, rest) → (u : List T) × (ts ≡ u ++ rest) × Whole x u × (d x ≤ suc b)
+  left_sound : (ts : List T) (x : A) (rest : List T) → read ts ≡ Ok (x, rest) → (u : List T) × (ts ≡ u ++ rest) × Whole x u × (d x ≤ B)
   left_sound ts x rest h =
       let one = bind_ok (p ts) (λ l r. loop (length r) l r) (x, rest) h in
       let s = R.sound ts one.0 one.1 one.2 in
@@ -85,11 +85,11 @@ module _ {T A S : Type 0} {W : A → List T → Type 0} {F : List T → Type 0} 
   ]
 
   -- The reader comes to the loop with each whole that stands before such a token.
-  run : (k : ℕ) (x : A) (u rest : List T) → ChainSpells W V f k x u → d x ≤ suc b → NextNotIn cont1 rest → NextNotIn cont2 rest → (m : ℕ) × (length rest ≤ m) × (read (u ++ rest) ≡ loop m x rest)
+  run : (k : ℕ) (x : A) (u rest : List T) → ChainSpells W V f k x u → d x ≤ B → NextNotIn cont1 rest → NextNotIn cont2 rest → (m : ℕ) × (length rest ≤ m) × (read (u ++ rest) ≡ loop m x rest)
   run zero x u rest h le off1 off2 = (length rest, le_refl _, ap (λ r. and_then r (λ l r. loop (length r) l r)) (R.complete x u rest h le off1))
   run (suc k) x u rest (l, s, v, [], e1, e2, h, g) le off1 off2 = absurd (true≢false (sym (Q.empty s g)))
   run (suc k) x u rest (l, s, v, t ∷ w, e1, e2, h, g) le off1 off2 =
-      let deep : d x ≡ suc (max (d l) (e s)) = ap d e1 ∙ over l s in
+      let deep : d x ≡ suc (extra + max (d l) (e s)) = ap d e1 ∙ over l s in
       let le1 : d l ≤ b = omega (arith, deep, le) in
       let le2 : e s ≤ b = omega (arith, deep, le) in
       let here = Q.starts t w (Q.holds s (t ∷ w) g le2) in
@@ -125,7 +125,7 @@ module _ {T A S : Type 0} {W : A → List T → Type 0} {F : List T → Type 0} 
   off_3 [] off = tt
   off_3 (t ∷ r) off = λ k. off (or_right (cont1 t) _ (or_right (cont2 t) _ k))
 
-  left_complete : (x : A) (u rest : List T) → Whole x u → d x ≤ suc b → NextNotIn left_cont rest → read (u ++ rest) ≡ Ok (x, rest)
+  left_complete : (x : A) (u rest : List T) → Whole x u → d x ≤ B → NextNotIn left_cont rest → read (u ++ rest) ≡ Ok (x, rest)
   left_complete x u rest h le off =
       let (m, len, same) = run h.0 x u rest h.1 le (off_1 rest off) (off_2 rest off) in
       same ∙ loop_end m x rest (off_3 rest off)
@@ -168,11 +168,11 @@ module _ {T A S : Type 0} {W : A → List T → Type 0} {F : List T → Type 0} 
   base_reach : (u v : List T) → F u → remaining (read (u ++ v)) ≤ length v
   base_reach u v h = le_trans (to_loop (p (u ++ v))) (R.reach u v h)
 
-  whole_reach : (k : ℕ) (x : A) (u v : List T) → ChainSpells W V f k x u → d x ≤ suc b → remaining (read (u ++ v)) ≤ length v
+  whole_reach : (k : ℕ) (x : A) (u v : List T) → ChainSpells W V f k x u → d x ≤ B → remaining (read (u ++ v)) ≤ length v
   whole_reach zero x u v h le = base_reach u v (R.holds x u h le)
   whole_reach (suc k) x u v (l, s, y, [], e1, e2, h, g) le = absurd (true≢false (sym (Q.empty s g)))
   whole_reach (suc k) x u v (l, s, y, t ∷ w, e1, e2, h, g) le =
-      let deep : d x ≡ suc (max (d l) (e s)) = ap d e1 ∙ over l s in
+      let deep : d x ≡ suc (extra + max (d l) (e s)) = ap d e1 ∙ over l s in
       let again : u ++ v ≡ y ++ ((t ∷ w) ++ v) = ap (λ z. z ++ v) e2 ∙ append_assoc y (t ∷ w) v in
       subst (λ z. remaining (read z) ≤ length v) (sym again) (behind l y t w v (k, h) (omega (arith, deep, le)) (Q.holds s (t ∷ w) g (omega (arith, deep, le))))
 
@@ -189,11 +189,11 @@ module _ {T A S : Type 0} {W : A → List T → Type 0} {F : List T → Type 0} 
   some_token zero x h = true≢false (sym (R.empty x h))
   some_token (suc k) x (l, s, v, w, e1, e2, h, g) = true≢false (sym (Q.empty s (subst (V s) ((append_empty v w e2).1) g)))
 
-  chain_starts : (k : ℕ) (x : A) (t : T) (u : List T) → ChainSpells W V f k x (t ∷ u) → d x ≤ suc b → first1 t ≡ true
+  chain_starts : (k : ℕ) (x : A) (t : T) (u : List T) → ChainSpells W V f k x (t ∷ u) → d x ≤ B → first1 t ≡ true
   chain_starts zero x t u h le = R.starts t u (R.holds x (t ∷ u) h le)
   chain_starts (suc k) x t u (l, s, [], w, e1, e2, h, g) le = absurd (some_token k l h)
   chain_starts (suc k) x t u (l, s, t' ∷ v, w, e1, e2, h, g) le =
-      let deep : d x ≡ suc (max (d l) (e s)) = ap d e1 ∙ over l s in
+      let deep : d x ≡ suc (extra + max (d l) (e s)) = ap d e1 ∙ over l s in
       subst (λ z. first1 z ≡ true) (sym (heads e2)) (chain_starts k l t' v h (omega (arith, deep, le)))
 
   left_starts : (t : T) (u : List T) → Front (t ∷ u) → first1 t ≡ true
@@ -201,10 +201,10 @@ module _ {T A S : Type 0} {W : A → List T → Type 0} {F : List T → Type 0} 
   left_starts t u (inr (l, [], w, e1, h, le, g)) = absurd (some_token h.0 l h.1)
   left_starts t u (inr (l, t' ∷ x, w, e1, h, le, g)) = subst (λ z. first1 z ≡ true) (sym (heads e1)) (chain_starts h.0 l t' x h.1 (omega (arith, le)))
 
-  chain_closed : (k : ℕ) (x : A) (u m : List T) → ChainSpells W V f k x (u ++ m) → d x ≤ suc b → Front u
+  chain_closed : (k : ℕ) (x : A) (u m : List T) → ChainSpells W V f k x (u ++ m) → d x ≤ B → Front u
   chain_closed zero x u m h le = inl (R.closed u m (R.holds x (u ++ m) h le))
   chain_closed (suc k) x u m (l, s, v, w, e1, e2, h, g) le =
-      let deep : d x ≡ suc (max (d l) (e s)) = ap d e1 ∙ over l s in
+      let deep : d x ≡ suc (extra + max (d l) (e s)) = ap d e1 ∙ over l s in
       elim (cut u m v w e2) [
         | inl i ↦ inr (l, v, i.0, i.1, (k, h), omega (arith, deep, le), Q.closed i.0 m (subst G i.2 (Q.holds s w g (omega (arith, deep, le)))))
         | inr i ↦ chain_closed k l u i.0 (subst (ChainSpells W V f k l) i.1 h) (omega (arith, deep, le))
@@ -217,13 +217,13 @@ module _ {T A S : Type 0} {W : A → List T → Type 0} {F : List T → Type 0} 
     | inr i ↦ chain_closed h.0 l u i.0 (subst (ChainSpells W V f h.0 l) i.1 h.1) (omega (arith, le))
   ]
 
-  left_holds : (k : ℕ) (x : A) (u : List T) → ChainSpells W V f k x u → d x ≤ suc b → Front u
+  left_holds : (k : ℕ) (x : A) (u : List T) → ChainSpells W V f k x u → d x ≤ B → Front u
   left_holds zero x u h le = inl (R.holds x u h le)
   left_holds (suc k) x u (l, s, v, w, e1, e2, h, g) le =
-      let deep : d x ≡ suc (max (d l) (e s)) = ap d e1 ∙ over l s in
+      let deep : d x ≡ suc (extra + max (d l) (e s)) = ap d e1 ∙ over l s in
       inr (l, v, w, e2, (k, h), omega (arith, deep, le), Q.holds s w g (omega (arith, deep, le)))
 
-  pub suffixes_reads : Reads (SuffixesSpell W V f) (SuffixesFront W V f d b F G) d (suc b) first1 left_cont false (read_suffixes first2 fits f p q)
+  pub suffixes_reads : Reads (SuffixesSpell W V f) Front d B first1 left_cont false (read_suffixes first2 fits f p q)
   suffixes_reads = record {
     sound = left_sound;
     refusal = left_fault;

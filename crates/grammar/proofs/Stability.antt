@@ -1,11 +1,12 @@
 -- With enough steps more steps change nothing, so the reader of a name is that of its rule.
-use Rattle.std.proofs.Common.{◌≡◌, ℕ, zero, suc, ◌+◌, ◌≤◌, ◌<◌, Bool, true, false, List, [], ◌∷◌, ◌++◌, length, Result, Ok, Err, inl, inr, refl, sym, ap, ◌∙◌, length-append, arith, le_refl, le_trans, true≢false}
+use Rattle.std.proofs.Common.{◌≡◌, ℕ, zero, suc, ◌+◌, ◌≤◌, ◌<◌, Bool, true, false, ◌&&◌, List, [], ◌∷◌, ◌++◌, length, Option, Some, None, Result, Ok, Err, inl, inr, refl, sym, ap, ◌∙◌, length-append, arith, le_refl, le_trans, true≢false}
 use Rattle.std.specs.Prelude.{nat_le, ◌&&◌, if◌then◌else◌}
-use Rattle.grammar.specs.FormReaders.{Reads, and_then, next_in, read_many, read_more_suffixes}
+use Rattle.grammar.specs.FormReaders.{Reads, and_then, next_in, read_many, read_more_suffixes, under, read_suffixes_at, read_suffix_at}
 use Rattle.grammar.specs.Rules.{Sort, El, deep, Rule, token, absent, sequence, choice, view, node, many, suffixes, suffix, starting, named, Grammar}
 use Rattle.grammar.specs.Spelling.{RuleSpells, RuleFront, Derives, DerivesFront}
 use Rattle.grammar.specs.Checks.{nullable, first, continues, Checks, Guarded, Predictive}
 use Rattle.grammar.specs.Readers.{Reader, read_rule, read_within, read_named}
+use Rattle.grammar.proofs.ReadsLevels.{under_some}
 use Rattle.grammar.proofs.ReadsRules.{reads, derives_nullable, read_within_reads}
 
 chain_by : {T A B : Type 0} (o : Result (A × List T) (List T)) (f g : A → List T → Result (B × List T) (List T)) → ((a : A) (r : List T) → o ≡ Ok (a, r) → f a r ≡ g a r) → and_then o f ≡ and_then o g
@@ -40,21 +41,39 @@ module _ {T N K : Type 0} {sorts : K → Sort} (G : Grammar T N K sorts) (S : Pr
       by (t ∷ u) e w = omega (arith, ap length e ∙ length-append (t ∷ u) rest)
 
   -- loops
-  many_same : {s : Sort} (r : Rule T N K sorts s) (c : Checks G r) (b : ℕ) (name_first : T → Bool) (len : ℕ) → ((ts : List T) → length ts ≤ len → old r b ts ≡ new r b ts)
-      → (m : ℕ) (ts : List T) → length ts ≤ len → read_many name_first (old r b) m ts ≡ read_many name_first (new r b) m ts
-  many_same r c b name_first len h zero ts le = refl
-  many_same r c b name_first len h (suc m) ts le =
-      if_same (next_in name_first ts) _ _ (Ok ([], ts)) (Ok ([], ts))
-      (chain_same (old r b ts) (new r b ts) (λ a rest. and_then (read_many name_first (old r b) m rest) (λ xs after. Ok (a ∷ xs, after))) (λ a rest. and_then (read_many name_first (new r b) m rest) (λ xs after. Ok (a ∷ xs, after))) (h ts le)
-      (λ a rest e. ap (λ o. and_then o (λ xs after. Ok (a ∷ xs, after))) (many_same r c b name_first len h m rest (le_trans (used r c b ts a rest e) le)))) refl
+  many_same : {s : Sort} (r : Rule T N K sorts s) (c : Checks G r) (b : ℕ) (begins : T → Bool) (len : ℕ) → ((ts : List T) → length ts ≤ len → old r b ts ≡ new r b ts)
+      → (m : ℕ) (ts : List T) → length ts ≤ len → read_many begins (old r b) m ts ≡ read_many begins (new r b) m ts
+  many_same r c b begins len h zero ts le = refl
+  many_same r c b begins len h (suc m) ts le =
+      if_same (next_in begins ts) _ _ (Ok ([], ts)) (Ok ([], ts))
+      (chain_same (old r b ts) (new r b ts) (λ a rest. and_then (read_many begins (old r b) m rest) (λ xs after. Ok (a ∷ xs, after))) (λ a rest. and_then (read_many begins (new r b) m rest) (λ xs after. Ok (a ∷ xs, after))) (h ts le)
+      (λ a rest e. ap (λ o. and_then o (λ xs after. Ok (a ∷ xs, after))) (many_same r c b begins len h m rest (le_trans (used r c b ts a rest e) le)))) refl
 
-  loop_same : {A : Type 0} {s : Sort} (q : Rule T N K sorts s) (c : Checks G q) (b : ℕ) (name_first : T → Bool) (fits : A → Bool) (f : A → El T N s → A) (len : ℕ) → ((ts : List T) → length ts ≤ len → old q b ts ≡ new q b ts)
-      → (m : ℕ) (l : A) (ts : List T) → length ts ≤ len → read_more_suffixes name_first fits f (old q b) m l ts ≡ read_more_suffixes name_first fits f (new q b) m l ts
-  loop_same q c b name_first fits f len h zero l ts le = refl
-  loop_same q c b name_first fits f len h (suc m) l ts le =
-      if_same (next_in name_first ts && fits l) _ _ (Ok (l, ts)) (Ok (l, ts))
-      (chain_same (old q b ts) (new q b ts) (λ x rest. read_more_suffixes name_first fits f (old q b) m (f l x) rest) (λ x rest. read_more_suffixes name_first fits f (new q b) m (f l x) rest) (h ts le)
-      (λ x rest e. loop_same q c b name_first fits f len h m (f l x) rest (le_trans (used q c b ts x rest e) le))) refl
+  loop_same : {A : Type 0} {s : Sort} (q : Rule T N K sorts s) (c : Checks G q) (b : ℕ) (begins : T → Bool) (fits : A → Bool) (f : A → El T N s → A) (len : ℕ) → ((ts : List T) → length ts ≤ len → old q b ts ≡ new q b ts)
+      → (m : ℕ) (l : A) (ts : List T) → length ts ≤ len → read_more_suffixes begins fits f (old q b) m l ts ≡ read_more_suffixes begins fits f (new q b) m l ts
+  loop_same q c b begins fits f len h zero l ts le = refl
+  loop_same q c b begins fits f len h (suc m) l ts le =
+      if_same (next_in begins ts && fits l) _ _ (Ok (l, ts)) (Ok (l, ts))
+      (chain_same (old q b ts) (new q b ts) (λ x rest. read_more_suffixes begins fits f (old q b) m (f l x) rest) (λ x rest. read_more_suffixes begins fits f (new q b) m (f l x) rest) (h ts le)
+      (λ x rest e. loop_same q c b begins fits f len h m (f l x) rest (le_trans (used q c b ts x rest e) le))) refl
+
+  -- with parts behind, whose levels are under a node where there are such
+  suffixes_same : {s s' : Sort} (r : Rule T N K sorts s) (c1 : Checks G r) (q : Rule T N K sorts s') (c2 : Checks G q) (ft : ℕ → Bool) (d : El T N s → ℕ) (f : El T N s → El T N s' → El T N s) (b : ℕ) (ts : List T) → old r b ts ≡ new r b ts → (o : Option ℕ)
+      → ((c : ℕ) → o ≡ Some c → (xs : List T) → length xs ≤ length ts → old q c xs ≡ new q c xs)
+      → read_suffixes_at (λ t. ft (G.code t)) d f (old r b) (λ c. old q c) o ts ≡ read_suffixes_at (λ t. ft (G.code t)) d f (new r b) (λ c. new q c) o ts
+  suffixes_same r c1 q c2 ft d f b ts e None h = e
+  suffixes_same r c1 q c2 ft d f b ts e (Some c) h =
+      chain_same (old r b ts) (new r b ts) _ _ e
+      (λ l rest e'. loop_same q c2 c (λ t. ft (G.code t)) (λ l. nat_le (d l) c) f (length ts) (λ xs i. h c refl xs i) (length rest) l rest (used r c1 b ts l rest e'))
+
+  suffix_same : {s s' : Sort} (r : Rule T N K sorts s) (c1 : Checks G r) (q : Rule T N K sorts s') (c2 : Checks G q) (ft : ℕ → Bool) (d : El T N s → ℕ) (ok : El T N s → Bool) (f : El T N s → El T N s' → El T N s) (b : ℕ) (ts : List T) → old r b ts ≡ new r b ts → (o : Option ℕ)
+      → ((c : ℕ) → o ≡ Some c → (xs : List T) → length xs ≤ length ts → old q c xs ≡ new q c xs)
+      → read_suffix_at (λ t. ft (G.code t)) d ok f (old r b) (λ c. old q c) o ts ≡ read_suffix_at (λ t. ft (G.code t)) d ok f (new r b) (λ c. new q c) o ts
+  suffix_same r c1 q c2 ft d ok f b ts e None h = e
+  suffix_same r c1 q c2 ft d ok f b ts e (Some c) h =
+      chain_same (old r b ts) (new r b ts) _ _ e
+      (λ l rest e'. if_same (next_in (λ t. ft (G.code t)) rest && (ok l && nat_le (d l) c)) _ _ (Ok (l, rest)) (Ok (l, rest))
+      (ap (λ o. and_then o (λ x after. Ok (f l x, after))) (h c refl rest (used r c1 b ts l rest e'))) refl)
 
   abbrev Same : ℕ → Type 0
   Same L = (c : ℕ) (k : K) (ts : List T) → length ts + c ≤ L → read_within G n c k ts ≡ env' c k ts
@@ -69,15 +88,12 @@ module _ {T N K : Type 0} {sorts : K → Sort} (G : Grammar T N K sorts) (S : Pr
   weak (node f r) c zero ts L le h = refl
   weak (node f r) c (suc b) ts L le h = ap (λ o. and_then o (λ a rest. Ok (f a, rest))) (weak r c.1 b ts L (omega (arith, le)) h)
   weak (many r) c b ts L le h = many_same r c.2 b (λ t. first G r (G.code t)) (length ts) (λ xs l. weak r c.2 b xs L (omega (arith, le, l)) h) (length ts) ts (le_refl _)
-  weak (suffixes r q f) c zero ts L le h = weak r c.5 0 ts L le h
-  weak (suffixes {s = s} r q f) c (suc b) ts L le h =
-      chain_same (old r (suc b) ts) (new r (suc b) ts) _ _ (weak r c.5 (suc b) ts L le h)
-      (λ l rest e. loop_same q c.6 b (λ t. first G q (G.code t)) (λ l. nat_le (deep T G.depth s l) b) f (length ts) (λ xs i. weak q c.6 b xs L (omega (arith, le, i)) h) (length rest) l rest (used r c.5 (suc b) ts l rest e))
-  weak (suffix r ok q f) c zero ts L le h = weak r c.4 0 ts L le h
-  weak (suffix {s = s} r ok q f) c (suc b) ts L le h =
-      chain_same (old r (suc b) ts) (new r (suc b) ts) _ _ (weak r c.4 (suc b) ts L le h)
-      (λ l rest e. if_same (next_in (λ t. first G q (G.code t)) rest && (ok l && nat_le (deep T G.depth s l) b)) _ _ (Ok (l, rest)) (Ok (l, rest))
-      (ap (λ o. and_then o (λ x after. Ok (f l x, after))) (weak q c.5 b rest L (omega (arith, le, used r c.4 (suc b) ts l rest e)) h)) refl)
+  weak (suffixes {s = s} extra r q f) c b ts L le h =
+      suffixes_same r c.5 q c.6 (first G q) (deep T G.depth s) f b ts (weak r c.5 b ts L le h) (under (suc extra) b)
+      (λ b' is xs i. weak q c.6 b' xs L (omega (arith, le, i, under_some (suc extra) b b' is)) h)
+  weak (suffix {s = s} extra r ok q f) c b ts L le h =
+      suffix_same r c.4 q c.5 (first G q) (deep T G.depth s) ok f b ts (weak r c.4 b ts L le h) (under (suc extra) b)
+      (λ b' is xs i. weak q c.5 b' xs L (omega (arith, le, i, under_some (suc extra) b b' is)) h)
   weak (starting g r) c b ts L le h = if_same (next_in (λ t. g (G.code t)) ts) _ _ (Err ts) (Err ts) (weak r c.1 b ts L le h) refl
   weak (named k) c b ts L le h = h b k ts le
 
@@ -96,16 +112,12 @@ module _ {T N K : Type 0} {sorts : K → Sort} (G : Grammar T N K sorts) (S : Pr
   strict (node f r) c d zero ts L le h = refl
   strict (node f r) c d (suc b) ts L le h = ap (λ o. and_then o (λ a rest. Ok (f a, rest))) (weak r c.1 b ts (length ts + b) (le_refl _) (λ c' k t i. h c' k t (omega (arith, i, le))))
   strict (many r) c d b ts L le h = many_same r c.2 b (λ t. first G r (G.code t)) (length ts) (λ xs l. strict r c.2 d b xs L (omega (arith, le, l)) h) (length ts) ts (le_refl _)
-  strict (suffixes r q f) c d zero ts L le h = strict r c.5 d 0 ts L le h
-  strict (suffixes {s = s} r q f) c d (suc b) ts L le h =
-      chain_same (old r (suc b) ts) (new r (suc b) ts) _ _ (strict r c.5 d (suc b) ts L le h)
-      (λ l rest e. loop_same q c.6 b (λ t. first G q (G.code t)) (λ l. nat_le (deep T G.depth s l) b) f (length ts)
-      (λ xs i. weak q c.6 b xs (length ts + b) (omega (arith, i)) (λ c' k t j. h c' k t (omega (arith, j, le)))) (length rest) l rest (used r c.5 (suc b) ts l rest e))
-  strict (suffix r ok q f) c d zero ts L le h = strict r c.4 d 0 ts L le h
-  strict (suffix {s = s} r ok q f) c d (suc b) ts L le h =
-      chain_same (old r (suc b) ts) (new r (suc b) ts) _ _ (strict r c.4 d (suc b) ts L le h)
-      (λ l rest e. if_same (next_in (λ t. first G q (G.code t)) rest && (ok l && nat_le (deep T G.depth s l) b)) _ _ (Ok (l, rest)) (Ok (l, rest))
-      (ap (λ o. and_then o (λ x after. Ok (f l x, after))) (weak q c.5 b rest (length ts + b) (omega (arith, used r c.4 (suc b) ts l rest e)) (λ c' k t j. h c' k t (omega (arith, j, le))))) refl)
+  strict (suffixes {s = s} extra r q f) c d b ts L le h =
+      suffixes_same r c.5 q c.6 (first G q) (deep T G.depth s) f b ts (strict r c.5 d b ts L le h) (under (suc extra) b)
+      (λ b' is xs i. let lv = under_some (suc extra) b b' is in weak q c.6 b' xs (length ts + b') (omega (arith, i)) (λ c' k t j. h c' k t (omega (arith, j, le, lv))))
+  strict (suffix {s = s} extra r ok q f) c d b ts L le h =
+      suffix_same r c.4 q c.5 (first G q) (deep T G.depth s) ok f b ts (strict r c.4 d b ts L le h) (under (suc extra) b)
+      (λ b' is xs i. let lv = under_some (suc extra) b b' is in weak q c.5 b' xs (length ts + b') (omega (arith, i)) (λ c' k t j. h c' k t (omega (arith, j, le, lv))))
   strict (starting g r) c d b ts L le h = if_same (next_in (λ t. g (G.code t)) ts) _ _ (Err ts) (Err ts) (strict r c.1 d b ts L le h) refl
   strict (named k) c d b ts L le h = absurd d
 

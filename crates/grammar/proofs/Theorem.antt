@@ -1,12 +1,12 @@
 -- What a reader of a sound table answers, and that tokens spell one tree.
-use Rattle.std.proofs.Common.{◌≡◌, ℕ, zero, suc, ◌-◌, ◌+◌, ◌≤◌, max, List, [], ◌∷◌, ◌++◌, length, take, Result, Ok, Err, inl, inr, refl, sym, ap, ◌∙◌, subst, append_assoc, append-nil, length-append, arith}
-use Rattle.grammar.specs.FormReaders.{Reads, remaining}
+use Rattle.std.proofs.Common.{◌≡◌, ℕ, zero, suc, ◌+◌, ◌-◌, ◌≤◌, max, List, [], ◌∷◌, ◌++◌, length, take, Result, Ok, Err, inl, inr, refl, sym, ap, ◌∙◌, subst, append_assoc, append-nil, length-append, arith}
+use Rattle.grammar.specs.FormReaders.{remaining, Reads}
 use Rattle.grammar.specs.Rules.{Sort, El, deep, Grammar}
 use Rattle.grammar.specs.Spelling.{Spells, IsFront}
 use Rattle.grammar.specs.Checks.{Predictive}
 use Rattle.grammar.specs.Readers.{read_named}
 use Rattle.grammar.specs.Reading.{FrontUpTo, RefusedAt, SpellsWithin, whole_list, read_all}
-use Rattle.grammar.proofs.Lists.{ok_inj, err_inj, ok_err, err_ok}
+use Rattle.grammar.proofs.Lists.{ok_err, err_ok, ok_inj, err_inj}
 use Rattle.grammar.proofs.FrontHeights.{read_named_reads}
 
 take_front : {T : Type 0} (n : ℕ) (u r : List T) → n ≤ length u → (v : List T) × (u ≡ take n (u ++ r) ++ v)

@@ -1,5 +1,5 @@
 -- What a grammar has to meet so that one token tells how to go on.
-use Rattle.std.specs.Prelude.{◌≡◌, ℕ, zero, suc, ◌<◌, max, Bool, true, false, ◌&&◌, ◌||◌, ◌⊎◌, if◌then◌else◌}
+use Rattle.std.specs.Prelude.{◌≡◌, ℕ, zero, suc, ◌+◌, ◌<◌, max, Bool, true, false, ◌&&◌, ◌||◌, ◌⊎◌, if◌then◌else◌}
 use Rattle.grammar.specs.Rules.{Sort, El, deep, Rule, token, absent, sequence, choice, view, node, many, suffixes, suffix, starting, named, Grammar}
 
 abbrev pub none_below : ℕ → (ℕ → Bool) → Bool
@@ -19,8 +19,8 @@ module _ {T N K : Type 0} {sorts : K → Sort} (G : Grammar T N K sorts) where
   nullable (view f r) = nullable r
   nullable (node f r) = nullable r
   nullable (many r) = true
-  nullable (suffixes r q f) = false
-  nullable (suffix r ok q f) = false
+  nullable (suffixes extra r q f) = false
+  nullable (suffix extra r ok q f) = false
   nullable (starting g r) = false
   nullable (named k) = G.name_nullable k
 
@@ -33,8 +33,8 @@ module _ {T N K : Type 0} {sorts : K → Sort} (G : Grammar T N K sorts) where
   first (view f r) t = first r t
   first (node f r) t = first r t
   first (many r) t = first r t
-  first (suffixes r q f) t = first r t
-  first (suffix r ok q f) t = first r t
+  first (suffixes extra r q f) t = first r t
+  first (suffix extra r ok q f) t = first r t
   first (starting g r) t = g t && first r t
   first (named k) t = G.name_first k t
 
@@ -47,8 +47,8 @@ module _ {T N K : Type 0} {sorts : K → Sort} (G : Grammar T N K sorts) where
   continues (view f r) t = continues r t
   continues (node f r) t = continues r t
   continues (many r) t = continues r t || first r t
-  continues (suffixes r q f) t = continues r t || (continues q t || first q t)
-  continues (suffix r ok q f) t = continues r t || (continues q t || first q t)
+  continues (suffixes extra r q f) t = continues r t || (continues q t || first q t)
+  continues (suffix extra r ok q f) t = continues r t || (continues q t || first q t)
   continues (starting g r) t = continues r t
   continues (named k) t = G.name_continues k t
 
@@ -64,10 +64,10 @@ module _ {T N K : Type 0} {sorts : K → Sort} (G : Grammar T N K sorts) where
   Checks (view {s = s} {r = r'} f r) = ((a : El T N s) → deep T G.depth r' (f a) ≡ deep T G.depth s a) × Checks r
   Checks (node {s = s} {r = r'} f r) = ((a : El T N s) → deep T G.depth r' (f a) ≡ suc (deep T G.depth s a)) × Checks r
   Checks (many r) = Disjoint (continues r) (first r) × (nullable r ≡ false) × Checks r
-  Checks (suffixes {s = s} {r = r'} r q f) = Disjoint (continues r) (first q) × Disjoint (continues q) (first q) × (nullable r ≡ false) × (nullable q ≡ false)
-      × ((l : El T N s) (x : El T N r') → deep T G.depth s (f l x) ≡ suc (max (deep T G.depth s l) (deep T G.depth r' x))) × Checks r × Checks q
-  Checks (suffix {s = s} {r = r'} r ok q f) = Disjoint (continues r) (first q) × (nullable r ≡ false) × (nullable q ≡ false)
-      × ((l : El T N s) (x : El T N r') → ok l ≡ true → deep T G.depth s (f l x) ≡ suc (max (deep T G.depth s l) (deep T G.depth r' x))) × Checks r × Checks q
+  Checks (suffixes {s = s} {r = r'} extra r q f) = Disjoint (continues r) (first q) × Disjoint (continues q) (first q) × (nullable r ≡ false) × (nullable q ≡ false)
+      × ((l : El T N s) (x : El T N r') → deep T G.depth s (f l x) ≡ suc (extra + max (deep T G.depth s l) (deep T G.depth r' x))) × Checks r × Checks q
+  Checks (suffix {s = s} {r = r'} extra r ok q f) = Disjoint (continues r) (first q) × (nullable r ≡ false) × (nullable q ≡ false)
+      × ((l : El T N s) (x : El T N r') → ok l ≡ true → deep T G.depth s (f l x) ≡ suc (extra + max (deep T G.depth s l) (deep T G.depth r' x))) × Checks r × Checks q
   Checks (starting g r) = (nullable r ≡ false) × Checks r
   Checks (named k) = Unit {0}
 
@@ -80,8 +80,8 @@ module _ {T N K : Type 0} {sorts : K → Sort} (G : Grammar T N K sorts) where
   Guarded (view f r) = Guarded r
   Guarded (node f r) = Unit {0}
   Guarded (many r) = Guarded r
-  Guarded (suffixes r q f) = Guarded r
-  Guarded (suffix r ok q f) = Guarded r
+  Guarded (suffixes extra r q f) = Guarded r
+  Guarded (suffix extra r ok q f) = Guarded r
   Guarded (starting g r) = Guarded r
   Guarded (named k) = ⊥
 

@@ -1,6 +1,6 @@
 -- A reader for each way to put rules together, and what a reader of a rule has to do.
 -- A reader answers with a value and the tokens behind it, or with the tokens from the refused one on.
-use Rattle.std.specs.Prelude.{◌≡◌, ℕ, zero, suc, ◌≤◌, Bool, true, false, ◌&&◌, List, [], ◌∷◌, ◌++◌, length, Option, Some, None, Result, Ok, Err, if◌then◌else◌}
+use Rattle.std.specs.Prelude.{◌≡◌, ℕ, zero, suc, ◌≤◌, Bool, true, false, ◌&&◌, List, [], ◌∷◌, ◌++◌, length, Option, Some, None, Result, Ok, Err, if◌then◌else◌, nat_le}
 
 -- the next token is not in the class
 abbrev pub NextNotIn : {T : Type 0} → (T → Bool) → List T → Type 0
@@ -57,6 +57,10 @@ read_choice first p q ts = if next_in first ts then p ts else q ts
 abbrev pub read_view : {T A B : Type 0} → (A → B) → (List T → Result (A × List T) (List T)) → List T → Result (B × List T) (List T)
 read_view f p ts = and_then (p ts) (λ a rest. Ok (f a, rest))
 
+abbrev pub read_node : {T A B : Type 0} → (A → B) → (ℕ → List T → Result (A × List T) (List T)) → ℕ → List T → Result (B × List T) (List T)
+read_node f p zero ts = Err ts
+read_node f p (suc b) ts = read_view f (p b) ts
+
 abbrev pub read_many : {T A : Type 0} → (T → Bool) → (List T → Result (A × List T) (List T)) → ℕ → List T → Result (List A × List T) (List T)
 read_many first p zero ts = Ok ([], ts)
 read_many first p (suc n) ts = if next_in first ts then and_then (p ts) (λ a rest. and_then (read_many first p n rest) (λ xs after. Ok (a ∷ xs, after))) else Ok ([], ts)
@@ -78,6 +82,21 @@ read_one_suffix first fits f q l ts = if next_in first ts && fits l then and_the
 
 abbrev pub read_suffix : {T A S : Type 0} → (T → Bool) → (A → Bool) → (A → S → A) → (List T → Result (A × List T) (List T)) → (List T → Result (S × List T) (List T)) → List T → Result (A × List T) (List T)
 read_suffix first fits f p q ts = and_then (p ts) (λ l rest. read_one_suffix first fits f q l rest)
+
+-- the levels under so many nodes
+abbrev pub under : ℕ → ℕ → Option ℕ
+under zero b = Some b
+under (suc n) zero = None
+under (suc n) (suc b) = under n b
+
+-- with the levels under the node that a part behind makes, if there are such
+abbrev pub read_suffixes_at : {T A S : Type 0} → (T → Bool) → (A → ℕ) → (A → S → A) → (List T → Result (A × List T) (List T)) → (ℕ → List T → Result (S × List T) (List T)) → Option ℕ → List T → Result (A × List T) (List T)
+read_suffixes_at first d f p q None ts = p ts
+read_suffixes_at first d f p q (Some c) ts = read_suffixes first (λ l. nat_le (d l) c) f p (q c) ts
+
+abbrev pub read_suffix_at : {T A S : Type 0} → (T → Bool) → (A → ℕ) → (A → Bool) → (A → S → A) → (List T → Result (A × List T) (List T)) → (ℕ → List T → Result (S × List T) (List T)) → Option ℕ → List T → Result (A × List T) (List T)
+read_suffix_at first d ok f p q None ts = p ts
+read_suffix_at first d ok f p q (Some c) ts = read_suffix first (λ l. ok l && nat_le (d l) c) f p (q c) ts
 
 abbrev pub read_starting : {T A : Type 0} → (T → Bool) → (List T → Result (A × List T) (List T)) → List T → Result (A × List T) (List T)
 read_starting g p ts = if next_in g ts then p ts else Err ts

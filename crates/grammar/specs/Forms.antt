@@ -1,7 +1,7 @@
 -- The ways to put rules of a grammar together. For each of them: which values a list of tokens spells, and which lists are fronts.
 -- A front is what a reader may have seen before it has to refuse: a list that some further tokens might complete, whose
 -- nodes are within a number of levels.
-use Rattle.std.specs.Prelude.{◌≡◌, ℕ, zero, suc, ◌≤◌, max, Bool, true, List, [], ◌∷◌, ◌++◌, Option, Some, ◌⊎◌}
+use Rattle.std.specs.Prelude.{◌≡◌, ℕ, zero, suc, ◌+◌, ◌≤◌, max, Bool, true, List, [], ◌∷◌, ◌++◌, Option, Some, ◌⊎◌}
 
 -- one token, which the function takes
 abbrev pub TokenSpells : {T A : Type 0} → (T → Option A) → A → List T → Type 0
@@ -60,16 +60,23 @@ ChainSpells {T} {A} {S} W V f (suc k) x u = (l : A) × (s : S) × (v : List T) �
 abbrev pub SuffixesSpell : {T A S : Type 0} → (A → List T → Type 0) → (S → List T → Type 0) → (A → S → A) → A → List T → Type 0
 SuffixesSpell W V f x u = (k : ℕ) × ChainSpells W V f k x u
 
--- the number is the levels that the parts behind have
-abbrev pub SuffixesFront : {T A S : Type 0} → (A → List T → Type 0) → (S → List T → Type 0) → (A → S → A) → (A → ℕ) → ℕ → (List T → Type 0) → (List T → Type 0) → List T → Type 0
-SuffixesFront {T} {A} W V f d b F G u = F u ⊎ ((l : A) × (v : List T) × (w : List T) × (u ≡ v ++ w) × SuffixesSpell W V f l v × (d l ≤ b) × G w)
+-- a part behind, with the levels `c`, stands behind a whole within them
+abbrev pub BehindSuffixes : {T A S : Type 0} → (A → List T → Type 0) → (S → List T → Type 0) → (A → S → A) → (A → ℕ) → ℕ → (List T → Type 0) → List T → Type 0
+BehindSuffixes {T} {A} W V f d c G u = (l : A) × (v : List T) × (w : List T) × (u ≡ v ++ w) × SuffixesSpell W V f l v × (d l ≤ c) × G w
+
+-- each part behind makes `extra + 1` levels over all before it
+abbrev pub SuffixesFront : {T A S : Type 0} → (A → List T → Type 0) → (S → List T → Type 0) → (A → S → A) → (A → ℕ) → ℕ → ℕ → (List T → Type 0) → (ℕ → List T → Type 0) → List T → Type 0
+SuffixesFront W V f d extra b F G u = F u ⊎ ((c : ℕ) × (b ≡ suc (extra + c)) × BehindSuffixes W V f d c (G c) u)
 
 -- a rule and then at most one part behind it, which makes a node with it, where the value before it may have one
 abbrev pub SuffixSpells : {T A S : Type 0} → (A → List T → Type 0) → (A → Bool) → (S → List T → Type 0) → (A → S → A) → A → List T → Type 0
 SuffixSpells {T} {A} {S} W ok V f x u = W x u ⊎ ((l : A) × (s : S) × (v : List T) × (w : List T) × (x ≡ f l s) × (u ≡ v ++ w) × (ok l ≡ true) × W l v × V s w)
 
-abbrev pub SuffixFront : {T A : Type 0} → (A → List T → Type 0) → (A → Bool) → (A → ℕ) → ℕ → (List T → Type 0) → (List T → Type 0) → List T → Type 0
-SuffixFront {T} {A} W ok d b F G u = F u ⊎ ((l : A) × (v : List T) × (w : List T) × (u ≡ v ++ w) × (ok l ≡ true) × W l v × (d l ≤ b) × G w)
+abbrev pub BehindSuffix : {T A : Type 0} → (A → List T → Type 0) → (A → Bool) → (A → ℕ) → ℕ → (List T → Type 0) → List T → Type 0
+BehindSuffix {T} {A} W ok d c G u = (l : A) × (v : List T) × (w : List T) × (u ≡ v ++ w) × (ok l ≡ true) × W l v × (d l ≤ c) × G w
+
+abbrev pub SuffixFront : {T A : Type 0} → (A → List T → Type 0) → (A → Bool) → (A → ℕ) → ℕ → ℕ → (List T → Type 0) → (ℕ → List T → Type 0) → List T → Type 0
+SuffixFront W ok d extra b F G u = F u ⊎ ((c : ℕ) × (b ≡ suc (extra + c)) × BehindSuffix W ok d c (G c) u)
 
 -- a rule that begins with a token of a class
 abbrev pub StartsIn : {T : Type 0} → (T → Bool) → List T → Type 0

@@ -1,25 +1,13 @@
 -- The reader of a grammar.
-use Rattle.std.specs.Prelude.{ℕ, zero, suc, ◌+◌, Bool, ◌&&◌, List, length, Result, Err, nat_le}
+use Rattle.std.specs.Prelude.{ℕ, zero, suc, ◌+◌, List, length, Result, Err, nat_le}
 use Rattle.grammar.specs.Rules.{Sort, El, deep, Rule, token, absent, sequence, choice, view, node, many, suffixes, suffix, starting, named, Grammar}
-use Rattle.grammar.specs.FormReaders.{read_token, read_absent, read_sequence, read_choice, read_view, read_many, read_suffixes, read_suffix, read_starting}
+use Rattle.grammar.specs.FormReaders.{read_token, read_absent, read_sequence, read_choice, read_view, read_node, read_many, under, read_suffixes_at, read_suffix_at, read_starting}
 use Rattle.grammar.specs.Spelling.{token_in}
 use Rattle.grammar.specs.Checks.{first}
 
 module _ {T N K : Type 0} {sorts : K → Sort} (G : Grammar T N K sorts) where
   abbrev pub Reader : Type 0 → Type 0
   Reader A = List T → Result (A × List T) (List T)
-
-  abbrev pub read_node : {A B : Type 0} → (A → B) → (ℕ → Reader A) → ℕ → Reader B
-  read_node f p zero ts = Err ts
-  read_node f p (suc b) ts = read_view f (p b) ts
-
-  abbrev pub read_suffixes_at : {A S : Type 0} → (T → Bool) → (A → ℕ) → (A → S → A) → (ℕ → Reader A) → (ℕ → Reader S) → ℕ → Reader A
-  read_suffixes_at begins d f p q zero ts = p 0 ts
-  read_suffixes_at begins d f p q (suc b) ts = read_suffixes begins (λ l. nat_le (d l) b) f (p (suc b)) (q b) ts
-
-  abbrev pub read_suffix_at : {A S : Type 0} → (T → Bool) → (A → ℕ) → (A → Bool) → (A → S → A) → (ℕ → Reader A) → (ℕ → Reader S) → ℕ → Reader A
-  read_suffix_at begins d ok f p q zero ts = p 0 ts
-  read_suffix_at begins d ok f p q (suc b) ts = read_suffix begins (λ l. ok l && nat_le (d l) b) f (p (suc b)) (q b) ts
 
   abbrev pub read_rule : {s : Sort} → (ℕ → (k : K) → Reader (El T N (sorts k))) → Rule T N K sorts s → ℕ → Reader (El T N s)
   read_rule names (token f) b ts = read_token (token_in G.code f) ts
@@ -29,8 +17,8 @@ module _ {T N K : Type 0} {sorts : K → Sort} (G : Grammar T N K sorts) where
   read_rule names (view f r) b ts = read_view f (read_rule names r b) ts
   read_rule names (node f r) b ts = read_node f (λ c. read_rule names r c) b ts
   read_rule names (many r) b ts = read_many (λ t. first G r (G.code t)) (read_rule names r b) (length ts) ts
-  read_rule names (suffixes {s = s} r q f) b ts = read_suffixes_at (λ t. first G q (G.code t)) (deep T G.depth s) f (λ c. read_rule names r c) (λ c. read_rule names q c) b ts
-  read_rule names (suffix {s = s} r ok q f) b ts = read_suffix_at (λ t. first G q (G.code t)) (deep T G.depth s) ok f (λ c. read_rule names r c) (λ c. read_rule names q c) b ts
+  read_rule names (suffixes {s = s} extra r q f) b ts = read_suffixes_at (λ t. first G q (G.code t)) (deep T G.depth s) f (read_rule names r b) (λ c. read_rule names q c) (under (suc extra) b) ts
+  read_rule names (suffix {s = s} extra r ok q f) b ts = read_suffix_at (λ t. first G q (G.code t)) (deep T G.depth s) ok f (read_rule names r b) (λ c. read_rule names q c) (under (suc extra) b) ts
   read_rule names (starting g r) b ts = read_starting (λ t. g (G.code t)) (read_rule names r b) ts
   read_rule names (named k) b ts = names b k ts
 

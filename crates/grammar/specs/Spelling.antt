@@ -16,8 +16,8 @@ module _ {T N K : Type 0} {sorts : K → Sort} (G : Grammar T N K sorts) where
   RuleSpells names (view f r) = ViewSpells f (RuleSpells names r)
   RuleSpells names (node f r) = ViewSpells f (RuleSpells names r)
   RuleSpells names (many r) = ManySpells (RuleSpells names r)
-  RuleSpells names (suffixes r q f) = SuffixesSpell (RuleSpells names r) (RuleSpells names q) f
-  RuleSpells names (suffix r ok q f) = SuffixSpells (RuleSpells names r) ok (RuleSpells names q) f
+  RuleSpells names (suffixes extra r q f) = SuffixesSpell (RuleSpells names r) (RuleSpells names q) f
+  RuleSpells names (suffix extra r ok q f) = SuffixSpells (RuleSpells names r) ok (RuleSpells names q) f
   RuleSpells names (starting g r) = StartingSpells (λ t. g (G.code t)) (RuleSpells names r)
   RuleSpells names (named k) = names k
 
@@ -31,14 +31,6 @@ module _ {T N K : Type 0} {sorts : K → Sort} (G : Grammar T N K sorts) where
 
   -- ---- fronts, whose nodes are within the levels `b`
 
-  abbrev pub SuffixesAt : {A S : Type 0} → (A → List T → Type 0) → (S → List T → Type 0) → (A → S → A) → (A → ℕ) → (ℕ → List T → Type 0) → (ℕ → List T → Type 0) → ℕ → List T → Type 0
-  SuffixesAt W V f d F H zero = F 0
-  SuffixesAt W V f d F H (suc b) = SuffixesFront W V f d b (F (suc b)) (H b)
-
-  abbrev pub SuffixAt : {A : Type 0} → (A → List T → Type 0) → (A → Bool) → (A → ℕ) → (ℕ → List T → Type 0) → (ℕ → List T → Type 0) → ℕ → List T → Type 0
-  SuffixAt W ok d F H zero = F 0
-  SuffixAt W ok d F H (suc b) = SuffixFront W ok d b (F (suc b)) (H b)
-
   abbrev pub RuleFront : {s : Sort} → ((k : K) → El T N (sorts k) → List T → Type 0) → (K → ℕ → List T → Type 0) → Rule T N K sorts s → ℕ → List T → Type 0
   RuleFront names fronts (token f) b = TokenFront (token_in G.code f)
   RuleFront names fronts (absent a) b = AbsentFront
@@ -47,8 +39,8 @@ module _ {T N K : Type 0} {sorts : K → Sort} (G : Grammar T N K sorts) where
   RuleFront names fronts (view f r) b = RuleFront names fronts r b
   RuleFront names fronts (node f r) b = NodeFront (λ c. RuleFront names fronts r c) b
   RuleFront names fronts (many {s = s} r) b = ManyFront (RuleSpells names r) (deep T G.depth s) b (RuleFront names fronts r b)
-  RuleFront names fronts (suffixes {s = s} r q f) b = SuffixesAt (RuleSpells names r) (RuleSpells names q) f (deep T G.depth s) (λ c. RuleFront names fronts r c) (λ c. RuleFront names fronts q c) b
-  RuleFront names fronts (suffix {s = s} r ok q f) b = SuffixAt (RuleSpells names r) ok (deep T G.depth s) (λ c. RuleFront names fronts r c) (λ c. RuleFront names fronts q c) b
+  RuleFront names fronts (suffixes {s = s} extra r q f) b = SuffixesFront (RuleSpells names r) (RuleSpells names q) f (deep T G.depth s) extra b (RuleFront names fronts r b) (λ c. RuleFront names fronts q c)
+  RuleFront names fronts (suffix {s = s} extra r ok q f) b = SuffixFront (RuleSpells names r) ok (deep T G.depth s) extra b (RuleFront names fronts r b) (λ c. RuleFront names fronts q c)
   RuleFront names fronts (starting g r) b = StartingFront (λ t. g (G.code t)) (RuleFront names fronts r b)
   RuleFront names fronts (named k) b = fronts k b
 
