@@ -1,8 +1,8 @@
 -- How high the derivation of a front has to be, and the reader with enough steps.
 use Rattle.std.proofs.Common.{◌≡◌, ℕ, zero, suc, ◌+◌, ◌≤◌, ◌<◌, true, List, [], ◌++◌, length, inl, inr, sym, ap, ◌∙◌, subst, length-append, arith, le_refl}
 use Rattle.grammar.specs.FormReaders.{Reads}
-use Rattle.grammar.specs.Rules.{Sort, El, deep, Rule, token, absent, sequence, choice, view, node, many, suffixes, suffix, starting, named, Grammar}
-use Rattle.grammar.specs.Spelling.{RuleSpells, RuleFront, Derives, Spells, DerivesFront, IsFront}
+use Rattle.grammar.specs.Rules.{Sort, El, deep, Rule, token, absent, sequence, choice, view, node, many, suffixes, suffix, starting, needs, named, Grammar}
+use Rattle.grammar.specs.Spelling.{RuleSpells, Derives, Spells, RuleFront, DerivesFront, IsFront}
 use Rattle.grammar.specs.Checks.{Checks, Guarded, Predictive}
 use Rattle.grammar.specs.Readers.{read_named}
 use Rattle.grammar.proofs.ReadsRules.{derives_nullable, read_within_reads}
@@ -38,6 +38,8 @@ module _ {T N K : Type 0} {sorts : K → Sort} (G : Grammar T N K sorts) (env en
       inr (b', lv, (l, v, w, e, k, weak G env env' no_token r c.4 l v L (omega (arith, le, lv, len, d)) h m, d, front_weak q c.5 b' w L (omega (arith, le, lv, len)) h g x))
   front_weak (starting t r) c b u L le h g (inl x) = inl x
   front_weak (starting t r) c b u L le h g (inr x) = inr (x.0, front_weak r c.1 b u L le h g x.1)
+  front_weak (needs n r) c b u L le h g (inl x) = inl x
+  front_weak (needs n r) c b u L le h g (inr x) = inr (x.0, front_weak r c.1 b u L le h g x.1)
   front_weak (named k) c b u L le h g x = g k b u le x
 
   front_strict : {s : Sort} (r : Rule T N K sorts s) → Checks G r → Guarded G r → (b : ℕ) (u : List T) (L : ℕ) → length u + b ≤ L
@@ -90,6 +92,8 @@ module _ {T N K : Type 0} {sorts : K → Sort} (G : Grammar T N K sorts) (env en
       )
   front_strict (starting t r) c gd b u L le h g (inl x) = inl x
   front_strict (starting t r) c gd b u L le h g (inr x) = inr (x.0, front_strict r c.1 gd b u L le h g x.1)
+  front_strict (needs n r) c gd b u L le h g (inl x) = inl x
+  front_strict (needs n r) c gd b u L le h g (inr x) = inr (x.0, front_strict r c.1 gd b u L le h g x.1)
   front_strict (named k) c gd b u L le h g x = absurd gd
 
 module _ {T N K : Type 0} {sorts : K → Sort} (G : Grammar T N K sorts) (S : Predictive G) where

@@ -1,7 +1,7 @@
 -- How high a derivation has to be: each name stands under a node or behind a token.
 use Rattle.std.proofs.Common.{◌≡◌, ℕ, zero, suc, ◌+◌, ◌≤◌, ◌<◌, max, true, false, List, [], ◌∷◌, length, inl, inr, sym, ap, ◌∙◌, length-append, arith, le_refl, true≢false}
 use Rattle.grammar.specs.Forms.{ManySpells, deepest, ChainSpells}
-use Rattle.grammar.specs.Rules.{Sort, El, deep, Rule, token, absent, sequence, choice, view, node, many, suffixes, suffix, starting, named, Grammar}
+use Rattle.grammar.specs.Rules.{Sort, El, deep, Rule, token, absent, sequence, choice, view, node, many, suffixes, suffix, starting, needs, named, Grammar}
 use Rattle.grammar.specs.Spelling.{RuleSpells, Derives}
 use Rattle.grammar.specs.Checks.{nullable, Checks, Guarded, Predictive}
 use Rattle.grammar.proofs.ReadsRules.{nullable_sound, derives_nullable}
@@ -57,6 +57,7 @@ module _ {T N K : Type 0} {sorts : K → Sort} (G : Grammar T N K sorts) where
           weak q c.5 z w L (omega (arith, le, ap length e2 ∙ length-append v w, ap (deep T G.depth s) e1, c.3 l z k)) h y,
         )
     weak (starting g r) c a u L le h x = (x.0, weak r c.1 a u L le h x.1)
+    weak (needs n r) c a u L le h x = weak r c.1 a u L le h x
     weak (named k) c a u L le h x = h k a u le x
 
     pub some_token : {s : Sort} (r : Rule T N K sorts s) → Checks G r → nullable G r ≡ false → (a : El T N s) (v : List T) → RuleSpells G env r a v → 0 < length v
@@ -122,6 +123,7 @@ module _ {T N K : Type 0} {sorts : K → Sort} (G : Grammar T N K sorts) where
           weak q c.5 z w (length w + deep T G.depth r' z) (le_refl _) (λ k a t j p. h k a t (omega (arith, j, le, len, high)) p) y,
         )
     strict (starting g r) c d a u L le h x = (x.0, strict r c.1 d a u L le h x.1)
+    strict (needs n r) c d a u L le h x = strict r c.1 d a u L le h x
     strict (named k) c d a u L le h x = absurd d
 
   module _ (S : Predictive G) where

@@ -4,7 +4,7 @@ use Rattle.grammar.specs.FormReaders.{remaining}
 use Rattle.grammar.specs.Rules.{Sort, El, Grammar}
 use Rattle.grammar.specs.Checks.{Predictive}
 use Rattle.grammar.specs.Readers.{read_named}
-use Rattle.grammar.specs.Reading.{RefusedAt, SpellsWithin, whole_list, read_all}
+use Rattle.grammar.specs.Reading.{SpellsWithin, RefusedAt, whole_list, read_all}
 use Rattle.grammar.proofs.Lists.{err_ok, ok_inj}
 use Rattle.grammar.proofs.FrontHeights.{read_named_reads}
 use Rattle.grammar.proofs.Theorem.{read_ok, read_refusal, read_whole}

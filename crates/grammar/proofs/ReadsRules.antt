@@ -3,9 +3,9 @@ use Rattle.std.proofs.Common.{◌≡◌, ℕ, zero, suc, ◌≤◌, ◌<◌, Boo
 use Rattle.std.specs.Prelude.{nat_le, if◌then◌else◌}
 use Rattle.grammar.specs.Forms.{ChainSpells}
 use Rattle.grammar.specs.FormReaders.{Apart, Reads, under}
-use Rattle.grammar.specs.Rules.{Sort, El, deep, Rule, token, absent, sequence, choice, view, node, many, suffixes, suffix, starting, named, Grammar}
-use Rattle.grammar.specs.Spelling.{token_in, RuleSpells, RuleFront, Derives, DerivesFront}
-use Rattle.grammar.specs.Checks.{nullable, first, continues, Checks, Predictive, Disjoint, none_below, included}
+use Rattle.grammar.specs.Rules.{Sort, El, deep, Rule, token, absent, sequence, choice, view, node, many, suffixes, suffix, starting, needs, named, Grammar}
+use Rattle.grammar.specs.Spelling.{token_in, RuleSpells, Derives, RuleFront, DerivesFront}
+use Rattle.grammar.specs.Checks.{none_below, included, nullable, first, continues, Disjoint, AtLeast, Checks, Predictive}
 use Rattle.grammar.specs.Readers.{Reader, read_rule, read_within}
 use Rattle.grammar.proofs.Lists.{err_ok, err_inj, cons_nil, nil_cons, append_empty, and_both}
 use Rattle.grammar.proofs.ReadsSequence.{sequence_reads}
@@ -13,6 +13,7 @@ use Rattle.grammar.proofs.ReadsBasic.{token_reads, absent_reads, choice_reads, v
 use Rattle.grammar.proofs.ReadsMany.{many_reads}
 use Rattle.grammar.proofs.ReadsStarting.{starting_reads}
 use Rattle.grammar.proofs.Weakening.{weaken}
+use Rattle.grammar.proofs.ReadsNeeds.{needs_reads}
 use Rattle.grammar.proofs.ReadsLevels.{suffixes_reads_at, suffix_reads_at}
 
 fits_up : (m n : ℕ) → m ≤ n → nat_le m n ≡ true
@@ -78,7 +79,23 @@ module _ {T N K : Type 0} {sorts : K → Sort} (G : Grammar T N K sorts) where
   nullable_sound env h (suffix extra r ok q f) c a (inr (l, s, v, w, e1, e2, k, x, y)) =
       absurd (never c.1 (nullable_sound env h r c.4 l (subst (RuleSpells G env r l) ((append_empty v w e2).0) x)))
   nullable_sound env h (starting g r) c a x = absurd x.0
+  nullable_sound env h (needs n r) c a x = nullable_sound env h r c.1 a x
   nullable_sound env h (named k) c a x = h k a x
+
+  at_least : (env : (k : K) → El T N (sorts k) → List T → Type 0) {s : Sort} (n : ℕ) (r : Rule T N K sorts s) → AtLeast G n r → (a : El T N s) (u : List T) → RuleSpells G env r a u → n ≤ deep T G.depth s a
+  at_least env n (token f) c a u x = c a
+  at_least env n (absent b) c a u x = c a
+  at_least env n (sequence r q) c a u x = c a
+  at_least env n (choice r q) c a u (inl x) = at_least env n r c.0 a u x
+  at_least env n (choice r q) c a u (inr x) = at_least env n q c.1 a u x
+  at_least env {s} n (view f r) c a u (b, e, x) = subst (λ z. n ≤ deep T G.depth s z) (sym e) (c b)
+  at_least env {s} n (node f r) c a u (b, e, x) = subst (λ z. n ≤ deep T G.depth s z) (sym e) (c b)
+  at_least env n (many r) c a u x = c a
+  at_least env n (suffixes extra r q f) c a u x = c a
+  at_least env n (suffix extra r ok q f) c a u x = c a
+  at_least env n (starting g r) c a u x = at_least env n r c a u x.1
+  at_least env n (needs m r) c a u x = at_least env n r c a u x
+  at_least env n (named k) c a u x = c a
 
   module _ (S : Predictive G) where
     pub derives_nullable : (n : ℕ) (k : K) (a : El T N (sorts k)) → Derives G n k a [] → G.name_nullable k ≡ true
@@ -126,6 +143,7 @@ module _ {T N K : Type 0} {sorts : K → Sort} (G : Grammar T N K sorts) where
           let R = some_of r b c.1 (reads r b c.4) in
           suffix_reads_at extra b f R (λ l. some_of q l c.2 (reads q l c.5)) ok (λ l u t v h le k here. R.complete l u (t ∷ v) h le (λ i. apart S.within (continues G r) (first G q) c.0 t i here)) c.3 (under (suc extra) b) refl
       reads (starting g r) b c = starting_reads (λ t. g (G.code t)) (some_of r b c.0 (reads r b c.1))
+      reads (needs n r) b c = needs_reads n (reads r b c.1) (λ a u x. at_least sp n r c.0 a u x)
       reads (named k) b c = known b k
 
     nothing_read : (k : K) (b : ℕ) → Reads (Derives G 0 k) (DerivesFront G 0 k b) (deep T G.depth (sorts k)) b (λ t. G.name_first k (G.code t)) (λ t. G.name_continues k (G.code t)) (G.name_nullable k) (read_within G 0 b k)

@@ -5,7 +5,7 @@ use Rattle.grammar.specs.Rules.{Sort, El, deep, Grammar}
 use Rattle.grammar.specs.Spelling.{Spells, IsFront}
 use Rattle.grammar.specs.Checks.{Predictive}
 use Rattle.grammar.specs.Readers.{read_named}
-use Rattle.grammar.specs.Reading.{FrontUpTo, RefusedAt, SpellsWithin, whole_list, read_all}
+use Rattle.grammar.specs.Reading.{SpellsWithin, FrontUpTo, RefusedAt, whole_list, read_all}
 use Rattle.grammar.proofs.Lists.{ok_err, err_ok, ok_inj, err_inj}
 use Rattle.grammar.proofs.FrontHeights.{read_named_reads}
 

@@ -1,6 +1,6 @@
 -- What a grammar has to meet so that one token tells how to go on.
-use Rattle.std.specs.Prelude.{◌≡◌, ℕ, zero, suc, ◌+◌, ◌<◌, max, Bool, true, false, ◌&&◌, ◌||◌, ◌⊎◌, if◌then◌else◌}
-use Rattle.grammar.specs.Rules.{Sort, El, deep, Rule, token, absent, sequence, choice, view, node, many, suffixes, suffix, starting, named, Grammar}
+use Rattle.std.specs.Prelude.{◌≡◌, ℕ, zero, suc, ◌+◌, ◌≤◌, ◌<◌, max, Bool, true, false, ◌&&◌, ◌||◌, ◌⊎◌, if◌then◌else◌}
+use Rattle.grammar.specs.Rules.{Sort, El, deep, Rule, token, absent, sequence, choice, view, node, many, suffixes, suffix, starting, needs, named, Grammar}
 
 abbrev pub none_below : ℕ → (ℕ → Bool) → Bool
 none_below zero f = true
@@ -22,6 +22,7 @@ module _ {T N K : Type 0} {sorts : K → Sort} (G : Grammar T N K sorts) where
   nullable (suffixes extra r q f) = false
   nullable (suffix extra r ok q f) = false
   nullable (starting g r) = false
+  nullable (needs n r) = nullable r
   nullable (named k) = G.name_nullable k
 
   -- the classes of tokens that begin it
@@ -36,6 +37,7 @@ module _ {T N K : Type 0} {sorts : K → Sort} (G : Grammar T N K sorts) where
   first (suffixes extra r q f) t = first r t
   first (suffix extra r ok q f) t = first r t
   first (starting g r) t = g t && first r t
+  first (needs n r) t = first r t
   first (named k) t = G.name_first k t
 
   -- the classes of tokens that can go on behind a whole one
@@ -50,11 +52,21 @@ module _ {T N K : Type 0} {sorts : K → Sort} (G : Grammar T N K sorts) where
   continues (suffixes extra r q f) t = continues r t || (continues q t || first q t)
   continues (suffix extra r ok q f) t = continues r t || (continues q t || first q t)
   continues (starting g r) t = continues r t
+  continues (needs n r) t = continues r t
   continues (named k) t = G.name_continues k t
 
   -- no class is in both
   abbrev pub Disjoint : (ℕ → Bool) → (ℕ → Bool) → Type 0
   Disjoint c f = none_below (G.size) (λ n. c n && f n) ≡ true
+
+  -- the values that the rule makes have so many levels
+  abbrev pub AtLeast : {s : Sort} → ℕ → Rule T N K sorts s → Type 0
+  AtLeast n (choice r q) = AtLeast n r × AtLeast n q
+  AtLeast {s} n (view {s = s'} f r) = (a : El T N s') → n ≤ deep T G.depth s (f a)
+  AtLeast {s} n (node {s = s'} f r) = (a : El T N s') → n ≤ deep T G.depth s (f a)
+  AtLeast n (starting g r) = AtLeast n r
+  AtLeast n (needs m r) = AtLeast n r
+  AtLeast {s} n r = (a : El T N s) → n ≤ deep T G.depth s a
 
   abbrev pub Checks : {s : Sort} → Rule T N K sorts s → Type 0
   Checks (token f) = Unit {0}
@@ -69,6 +81,7 @@ module _ {T N K : Type 0} {sorts : K → Sort} (G : Grammar T N K sorts) where
   Checks (suffix {s = s} {r = r'} extra r ok q f) = Disjoint (continues r) (first q) × (nullable r ≡ false) × (nullable q ≡ false)
       × ((l : El T N s) (x : El T N r') → ok l ≡ true → deep T G.depth s (f l x) ≡ suc (extra + max (deep T G.depth s l) (deep T G.depth r' x))) × Checks r × Checks q
   Checks (starting g r) = (nullable r ≡ false) × Checks r
+  Checks (needs n r) = AtLeast n r × Checks r
   Checks (named k) = Unit {0}
 
   -- each name in it stands under a node of it, or behind a token of it
@@ -83,6 +96,7 @@ module _ {T N K : Type 0} {sorts : K → Sort} (G : Grammar T N K sorts) where
   Guarded (suffixes extra r q f) = Guarded r
   Guarded (suffix extra r ok q f) = Guarded r
   Guarded (starting g r) = Guarded r
+  Guarded (needs n r) = Guarded r
   Guarded (named k) = ⊥
 
   pub record Predictive : Type 0 where

@@ -100,3 +100,6 @@ read_suffix_at first d ok f p q (Some c) ts = read_suffix first (λ l. ok l && n
 
 abbrev pub read_starting : {T A : Type 0} → (T → Bool) → (List T → Result (A × List T) (List T)) → List T → Result (A × List T) (List T)
 read_starting g p ts = if next_in g ts then p ts else Err ts
+
+abbrev pub read_needs : {T A : Type 0} → ℕ → ℕ → (List T → Result (A × List T) (List T)) → List T → Result (A × List T) (List T)
+read_needs n b p ts = if nat_le n b then p ts else Err ts

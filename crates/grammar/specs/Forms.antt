@@ -88,3 +88,7 @@ StartingSpells g W a u = StartsIn g u × W a u
 
 abbrev pub StartingFront : {T : Type 0} → (T → Bool) → (List T → Type 0) → List T → Type 0
 StartingFront g F u = (u ≡ []) ⊎ (StartsIn g u × F u)
+
+-- A rule whose nodes take so many levels as soon as it begins: nothing, or there are so many.
+abbrev pub NeedsFront : {T : Type 0} → ℕ → ℕ → (List T → Type 0) → List T → Type 0
+NeedsFront n b F u = (u ≡ []) ⊎ ((n ≤ b) × F u)

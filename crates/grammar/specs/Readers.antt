@@ -1,7 +1,7 @@
 -- The reader of a grammar.
 use Rattle.std.specs.Prelude.{ℕ, zero, suc, ◌+◌, List, length, Result, Err, nat_le}
-use Rattle.grammar.specs.Rules.{Sort, El, deep, Rule, token, absent, sequence, choice, view, node, many, suffixes, suffix, starting, named, Grammar}
-use Rattle.grammar.specs.FormReaders.{read_token, read_absent, read_sequence, read_choice, read_view, read_node, read_many, under, read_suffixes_at, read_suffix_at, read_starting}
+use Rattle.grammar.specs.Rules.{Sort, El, deep, Rule, token, absent, sequence, choice, view, node, many, suffixes, suffix, starting, needs, named, Grammar}
+use Rattle.grammar.specs.FormReaders.{read_token, read_absent, read_sequence, read_choice, read_view, read_node, read_many, under, read_suffixes_at, read_suffix_at, read_starting, read_needs}
 use Rattle.grammar.specs.Spelling.{token_in}
 use Rattle.grammar.specs.Checks.{first}
 
@@ -20,6 +20,7 @@ module _ {T N K : Type 0} {sorts : K → Sort} (G : Grammar T N K sorts) where
   read_rule names (suffixes {s = s} extra r q f) b ts = read_suffixes_at (λ t. first G q (G.code t)) (deep T G.depth s) f (read_rule names r b) (λ c. read_rule names q c) (under (suc extra) b) ts
   read_rule names (suffix {s = s} extra r ok q f) b ts = read_suffix_at (λ t. first G q (G.code t)) (deep T G.depth s) ok f (read_rule names r b) (λ c. read_rule names q c) (under (suc extra) b) ts
   read_rule names (starting g r) b ts = read_starting (λ t. g (G.code t)) (read_rule names r b) ts
+  read_rule names (needs n r) b ts = read_needs n b (read_rule names r b) ts
   read_rule names (named k) b ts = names b k ts
 
   -- in so many steps of names at most

@@ -47,6 +47,8 @@ pub data Rule (T N K : Type 0) (sorts : K → Sort) : Sort → Type 0 where
   suffix : {s r : Sort} → ℕ → Rule T N K sorts s → (El T N s → Bool) → Rule T N K sorts r → (El T N s → El T N r → El T N s) → Rule T N K sorts s
   -- a rule that begins with a token of a class
   starting : {s : Sort} → (ℕ → Bool) → Rule T N K sorts s → Rule T N K sorts s
+  -- a rule that begins only where there are so many levels, as its nodes have
+  needs : {s : Sort} → ℕ → Rule T N K sorts s → Rule T N K sorts s
   -- the production of that name
   named : (k : K) → Rule T N K sorts (sorts k)
 

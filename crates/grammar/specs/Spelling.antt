@@ -1,7 +1,7 @@
 -- What a list of tokens spells by a grammar, and which lists are fronts.
 use Rattle.std.specs.Prelude.{◌≡◌, ℕ, zero, suc, Bool, List, [], Option, Some, None, if◌then◌else◌}
-use Rattle.grammar.specs.Forms.{TokenSpells, TokenFront, AbsentSpells, AbsentFront, SequenceSpells, SequenceFront, ChoiceSpells, ChoiceFront, ViewSpells, NodeFront, ManySpells, ManyFront, SuffixesSpell, SuffixesFront, SuffixSpells, SuffixFront, StartingSpells, StartingFront}
-use Rattle.grammar.specs.Rules.{Sort, El, deep, Rule, token, absent, sequence, choice, view, node, many, suffixes, suffix, starting, named, Grammar}
+use Rattle.grammar.specs.Forms.{TokenSpells, TokenFront, AbsentSpells, AbsentFront, SequenceSpells, SequenceFront, ChoiceSpells, ChoiceFront, ViewSpells, NodeFront, ManySpells, ManyFront, SuffixesSpell, SuffixesFront, SuffixSpells, SuffixFront, StartingSpells, StartingFront, NeedsFront}
+use Rattle.grammar.specs.Rules.{Sort, El, deep, Rule, token, absent, sequence, choice, view, node, many, suffixes, suffix, starting, needs, named, Grammar}
 
 abbrev pub token_in : {T : Type 0} → (T → ℕ) → (ℕ → Bool) → T → Option T
 token_in code f t = if f (code t) then Some t else None
@@ -19,6 +19,7 @@ module _ {T N K : Type 0} {sorts : K → Sort} (G : Grammar T N K sorts) where
   RuleSpells names (suffixes extra r q f) = SuffixesSpell (RuleSpells names r) (RuleSpells names q) f
   RuleSpells names (suffix extra r ok q f) = SuffixSpells (RuleSpells names r) ok (RuleSpells names q) f
   RuleSpells names (starting g r) = StartingSpells (λ t. g (G.code t)) (RuleSpells names r)
+  RuleSpells names (needs n r) = RuleSpells names r
   RuleSpells names (named k) = names k
 
   -- the number bounds how deep the derivation is
@@ -42,6 +43,7 @@ module _ {T N K : Type 0} {sorts : K → Sort} (G : Grammar T N K sorts) where
   RuleFront names fronts (suffixes {s = s} extra r q f) b = SuffixesFront (RuleSpells names r) (RuleSpells names q) f (deep T G.depth s) extra b (RuleFront names fronts r b) (λ c. RuleFront names fronts q c)
   RuleFront names fronts (suffix {s = s} extra r ok q f) b = SuffixFront (RuleSpells names r) ok (deep T G.depth s) extra b (RuleFront names fronts r b) (λ c. RuleFront names fronts q c)
   RuleFront names fronts (starting g r) b = StartingFront (λ t. g (G.code t)) (RuleFront names fronts r b)
+  RuleFront names fronts (needs n r) b = NeedsFront n b (RuleFront names fronts r b)
   RuleFront names fronts (named k) b = fronts k b
 
   unfoldable pub DerivesFront : ℕ → K → ℕ → List T → Type 0
