@@ -1,7 +1,7 @@
 -- How high the derivation of a front has to be, and the reader with enough steps.
 use Rattle.std.proofs.Common.{◌≡◌, ℕ, zero, suc, ◌+◌, ◌≤◌, ◌<◌, true, List, [], ◌++◌, length, inl, inr, sym, ap, ◌∙◌, subst, length-append, arith, le_refl}
 use Rattle.grammar.specs.FormReaders.{Reads}
-use Rattle.grammar.specs.Rules.{Sort, El, deep, Rule, token, absent, sequence, choice, view, node, many, suffixes, suffix, starting, needs, named, Grammar}
+use Rattle.grammar.specs.Rules.{Sort, El, deep, Rule, token, token_where, absent, sequence, choice, view, node, many, suffixes, suffix, starting, bind, needs, named, Grammar}
 use Rattle.grammar.specs.Spelling.{RuleSpells, Derives, Spells, RuleFront, DerivesFront, IsFront}
 use Rattle.grammar.specs.Checks.{Checks, Guarded, Predictive}
 use Rattle.grammar.specs.Readers.{read_named}
@@ -13,6 +13,7 @@ module _ {T N K : Type 0} {sorts : K → Sort} (G : Grammar T N K sorts) (env en
       → ((k : K) (a : El T N (sorts k)) (u : List T) → length u + deep T G.depth (sorts k) a ≤ L → env k a u → env' k a u) → ((k : K) (b : ℕ) (u : List T) → length u + b ≤ L → fr k b u → fr' k b u)
       → RuleFront G env fr r b u → RuleFront G env' fr' r b u
   front_weak (token f) c b u L le h g x = x
+  front_weak (token_where f ok) c b u L le h g x = x
   front_weak (absent a) c b u L le h g x = x
   front_weak (sequence r q) c b u L le h g (inl x) = inl (front_weak r c.1 b u L le h g x)
   front_weak (sequence r q) c b u L le h g (inr (a, v, w, e, y, d, x)) =
@@ -38,6 +39,10 @@ module _ {T N K : Type 0} {sorts : K → Sort} (G : Grammar T N K sorts) (env en
       inr (b', lv, (l, v, w, e, k, weak G env env' no_token r c.4 l v L (omega (arith, le, lv, len, d)) h m, d, front_weak q c.5 b' w L (omega (arith, le, lv, len)) h g x))
   front_weak (starting t r) c b u L le h g (inl x) = inl x
   front_weak (starting t r) c b u L le h g (inr x) = inr (x.0, front_weak r c.1 b u L le h g x.1)
+  front_weak (bind r null begins goes_on q) c b u L le h g (inl x) = inl (front_weak r c.1 b u L le h g x)
+  front_weak (bind r null begins goes_on q) c b u L le h g (inr (a, v, w, e, y, d, x)) =
+      let len = ap length e ∙ length-append v w in
+      inr (a, v, w, e, weak G env env' no_token r c.1 a v L (omega (arith, le, len, d)) h y, d, front_weak (q a) ((c.2 a).3) b w L (omega (arith, le, len)) h g x)
   front_weak (needs n r) c b u L le h g (inl x) = inl x
   front_weak (needs n r) c b u L le h g (inr x) = inr (x.0, front_weak r c.1 b u L le h g x.1)
   front_weak (named k) c b u L le h g x = g k b u le x
@@ -46,6 +51,7 @@ module _ {T N K : Type 0} {sorts : K → Sort} (G : Grammar T N K sorts) (env en
       → ((k : K) (a : El T N (sorts k)) (u : List T) → length u + deep T G.depth (sorts k) a < L → env k a u → env' k a u) → ((k : K) (b : ℕ) (u : List T) → length u + b < L → fr k b u → fr' k b u)
       → RuleFront G env fr r b u → RuleFront G env' fr' r b u
   front_strict (token f) c gd b u L le h g x = x
+  front_strict (token_where f ok) c gd b u L le h g x = x
   front_strict (absent a) c gd b u L le h g x = x
   front_strict (sequence r q) c gd b u L le h g (inl x) = inl (front_strict r c.1 gd.0 b u L le h g x)
   front_strict (sequence r q) c gd b u L le h g (inr (a, v, w, e, y, d, x)) =
@@ -92,6 +98,22 @@ module _ {T N K : Type 0} {sorts : K → Sort} (G : Grammar T N K sorts) (env en
       )
   front_strict (starting t r) c gd b u L le h g (inl x) = inl x
   front_strict (starting t r) c gd b u L le h g (inr x) = inr (x.0, front_strict r c.1 gd b u L le h g x.1)
+  front_strict (bind r null begins goes_on q) c gd b u L le h g (inl x) = inl (front_strict r c.1 gd.0 b u L le h g x)
+  front_strict (bind r null begins goes_on q) c gd b u L le h g (inr (a, v, w, e, y, d, x)) =
+      let len = ap length e ∙ length-append v w in
+      inr (
+        a,
+        v,
+        w,
+        e,
+        strict G env env' no_token r c.1 gd.0 a v L (omega (arith, le, len, d)) h y,
+        d,
+        elim gd.1 [
+          | inl j ↦ front_strict (q a) ((c.2 a).3) (j a) b w L (omega (arith, le, len)) h g x
+          | inr j ↦ let some = some_token G env env' no_token r c.1 j a v y in
+              front_weak (q a) ((c.2 a).3) b w (length w + b) (le_refl _) (λ k a t i p. h k a t (omega (arith, i, le, len, some)) p) (λ k a t i p. g k a t (omega (arith, i, le, len, some)) p) x
+        ],
+      )
   front_strict (needs n r) c gd b u L le h g (inl x) = inl x
   front_strict (needs n r) c gd b u L le h g (inr x) = inr (x.0, front_strict r c.1 gd b u L le h g x.1)
   front_strict (named k) c gd b u L le h g x = absurd gd

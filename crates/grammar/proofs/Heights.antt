@@ -1,7 +1,7 @@
 -- How high a derivation has to be: each name stands under a node or behind a token.
 use Rattle.std.proofs.Common.{◌≡◌, ℕ, zero, suc, ◌+◌, ◌≤◌, ◌<◌, max, true, false, List, [], ◌∷◌, length, inl, inr, sym, ap, ◌∙◌, length-append, arith, le_refl, true≢false}
 use Rattle.grammar.specs.Forms.{ManySpells, deepest, ChainSpells}
-use Rattle.grammar.specs.Rules.{Sort, El, deep, Rule, token, absent, sequence, choice, view, node, many, suffixes, suffix, starting, needs, named, Grammar}
+use Rattle.grammar.specs.Rules.{Sort, El, deep, Rule, token, token_where, absent, sequence, choice, view, node, many, suffixes, suffix, starting, bind, needs, named, Grammar}
 use Rattle.grammar.specs.Spelling.{RuleSpells, Derives}
 use Rattle.grammar.specs.Checks.{nullable, Checks, Guarded, Predictive}
 use Rattle.grammar.proofs.ReadsRules.{nullable_sound, derives_nullable}
@@ -33,6 +33,7 @@ module _ {T N K : Type 0} {sorts : K → Sort} (G : Grammar T N K sorts) where
     pub weak : {s : Sort} (r : Rule T N K sorts s) → Checks G r → (a : El T N s) (u : List T) (L : ℕ) → length u + deep T G.depth s a ≤ L
         → ((k : K) (a : El T N (sorts k)) (u : List T) → length u + deep T G.depth (sorts k) a ≤ L → env k a u → env' k a u) → RuleSpells G env r a u → RuleSpells G env' r a u
     weak (token f) c a u L le h x = x
+    weak (token_where f ok) c a u L le h x = x
     weak (absent b) c a u L le h x = x
     weak (sequence r q) c a u L le h (v, w, e, x, y) =
         (v, w, e, weak r c.1 a.0 v L (omega (arith, le, ap length e ∙ length-append v w)) h x, weak q c.2 a.1 w L (omega (arith, le, ap length e ∙ length-append v w)) h y)
@@ -57,6 +58,8 @@ module _ {T N K : Type 0} {sorts : K → Sort} (G : Grammar T N K sorts) where
           weak q c.5 z w L (omega (arith, le, ap length e2 ∙ length-append v w, ap (deep T G.depth s) e1, c.3 l z k)) h y,
         )
     weak (starting g r) c a u L le h x = (x.0, weak r c.1 a u L le h x.1)
+    weak (bind r null begins goes_on q) c a u L le h (v, w, e, x, y) =
+        (v, w, e, weak r c.1 a.0 v L (omega (arith, le, ap length e ∙ length-append v w)) h x, weak (q a.0) ((c.2 a.0).3) a.1 w L (omega (arith, le, ap length e ∙ length-append v w)) h y)
     weak (needs n r) c a u L le h x = weak r c.1 a u L le h x
     weak (named k) c a u L le h x = h k a u le x
 
@@ -68,6 +71,7 @@ module _ {T N K : Type 0} {sorts : K → Sort} (G : Grammar T N K sorts) where
     pub strict : {s : Sort} (r : Rule T N K sorts s) → Checks G r → Guarded G r → (a : El T N s) (u : List T) (L : ℕ) → length u + deep T G.depth s a ≤ L
         → ((k : K) (a : El T N (sorts k)) (u : List T) → length u + deep T G.depth (sorts k) a < L → env k a u → env' k a u) → RuleSpells G env r a u → RuleSpells G env' r a u
     strict (token f) c d a u L le h x = x
+    strict (token_where f ok) c d a u L le h x = x
     strict (absent b) c d a u L le h x = x
     strict (sequence {s = s'} {r = r'} r q) c d a u L le h (v, w, e, x, y) =
         let len = ap length e ∙ length-append v w in
@@ -123,6 +127,19 @@ module _ {T N K : Type 0} {sorts : K → Sort} (G : Grammar T N K sorts) where
           weak q c.5 z w (length w + deep T G.depth r' z) (le_refl _) (λ k a t j p. h k a t (omega (arith, j, le, len, high)) p) y,
         )
     strict (starting g r) c d a u L le h x = (x.0, strict r c.1 d a u L le h x.1)
+    strict (bind {s = s'} {r = r'} r null begins goes_on q) c d a u L le h (v, w, e, x, y) =
+        let len = ap length e ∙ length-append v w in
+        let first = strict r c.1 d.0 a.0 v L (omega (arith, le, len)) h x in (
+          v,
+          w,
+          e,
+          first,
+          elim d.1 [
+            | inl g ↦ strict (q a.0) ((c.2 a.0).3) (g a.0) a.1 w L (omega (arith, le, len)) h y
+            | inr g ↦ let some = some_token r c.1 g a.0 v x in
+                weak (q a.0) ((c.2 a.0).3) a.1 w (length w + deep T G.depth r' a.1) (le_refl _) (λ k b t j p. h k b t (omega (arith, j, le, len, some)) p) y
+          ],
+        )
     strict (needs n r) c d a u L le h x = strict r c.1 d a u L le h x
     strict (named k) c d a u L le h x = absurd d
 

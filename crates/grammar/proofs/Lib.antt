@@ -6,6 +6,7 @@ pub mod ReadsSuffixes
 pub mod ReadsSuffix
 pub mod ReadsStarting
 pub mod Weakening
+pub mod ReadsBind
 pub mod ReadsNeeds
 pub mod ReadsLevels
 pub mod ReadsRules

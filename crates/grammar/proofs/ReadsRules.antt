@@ -3,8 +3,8 @@ use Rattle.std.proofs.Common.{◌≡◌, ℕ, zero, suc, ◌≤◌, ◌<◌, Boo
 use Rattle.std.specs.Prelude.{nat_le, if◌then◌else◌}
 use Rattle.grammar.specs.Forms.{ChainSpells}
 use Rattle.grammar.specs.FormReaders.{Apart, Reads, under}
-use Rattle.grammar.specs.Rules.{Sort, El, deep, Rule, token, absent, sequence, choice, view, node, many, suffixes, suffix, starting, needs, named, Grammar}
-use Rattle.grammar.specs.Spelling.{token_in, RuleSpells, Derives, RuleFront, DerivesFront}
+use Rattle.grammar.specs.Rules.{Sort, El, deep, Rule, token, token_where, absent, sequence, choice, view, node, many, suffixes, suffix, starting, bind, needs, named, Grammar}
+use Rattle.grammar.specs.Spelling.{token_in, token_such, RuleSpells, Derives, RuleFront, DerivesFront}
 use Rattle.grammar.specs.Checks.{none_below, included, nullable, first, continues, Disjoint, AtLeast, Checks, Predictive}
 use Rattle.grammar.specs.Readers.{Reader, read_rule, read_within}
 use Rattle.grammar.proofs.Lists.{err_ok, err_inj, cons_nil, nil_cons, append_empty, and_both}
@@ -14,6 +14,7 @@ use Rattle.grammar.proofs.ReadsMany.{many_reads}
 use Rattle.grammar.proofs.ReadsStarting.{starting_reads}
 use Rattle.grammar.proofs.Weakening.{weaken}
 use Rattle.grammar.proofs.ReadsNeeds.{needs_reads}
+use Rattle.grammar.proofs.ReadsBind.{bind_reads}
 use Rattle.grammar.proofs.ReadsLevels.{suffixes_reads_at, suffix_reads_at}
 
 fits_up : (m n : ℕ) → m ≤ n → nat_le m n ≡ true
@@ -28,6 +29,13 @@ picked code f t = by (f (code t))
     by : (c : Bool) → is_some (if c then Some t else None) ≡ true → c ≡ true
     by true h = refl
     by false h = absurd (true≢false (sym h))
+
+such : {T : Type 0} (code : T → ℕ) (f : ℕ → Bool) (ok : T → Bool) (t : T) → is_some (token_such code f ok t) ≡ true → f (code t) ≡ true
+such code f ok t = by (f (code t)) (ok t)
+  where
+    by : (c d : Bool) → is_some (if c && d then Some t else None) ≡ true → c ≡ true
+    by true d h = refl
+    by false d h = absurd (true≢false (sym h))
 
 chain_token : {T A S : Type 0} (RuleSpells : A → List T → Type 0) (V : S → List T → Type 0) (f : A → S → A) → ((a : A) → RuleSpells a [] → ⊥) → ((s : S) → V s [] → ⊥) → (k : ℕ) (x : A) → ChainSpells RuleSpells V f k x [] → ⊥
 chain_token RuleSpells V f h g zero x m = h x m
@@ -52,8 +60,8 @@ clear_at (suc n) f k h lt e = by (λ y less. clear_at n f k y less e) (f n) refl
       | inr less ↦ go y less
     ]
 
-in_all_at : (n : ℕ) (f g : ℕ → Bool) (k : ℕ) → included n f g ≡ true → k < n → f k ≡ true → g k ≡ true
-in_all_at n f g k h lt e = by (g k) refl
+included_at : (n : ℕ) (f g : ℕ → Bool) (k : ℕ) → included n f g ≡ true → k < n → f k ≡ true → g k ≡ true
+included_at n f g k h lt e = by (g k) refl
   where
     by : (c : Bool) → g k ≡ c → c ≡ true
     by true x = refl
@@ -65,6 +73,7 @@ module _ {T N K : Type 0} {sorts : K → Sort} (G : Grammar T N K sorts) where
 
   pub nullable_sound : {s : Sort} (env : (k : K) → El T N (sorts k) → List T → Type 0) → ((k : K) (a : El T N (sorts k)) → env k a [] → G.name_nullable k ≡ true) → (r : Rule T N K sorts s) → Checks G r → (a : El T N s) → RuleSpells G env r a [] → nullable G r ≡ true
   nullable_sound env h (token f) c a (t, e, x) = nil_cons e
+  nullable_sound env h (token_where f ok) c a (t, e, x) = nil_cons e
   nullable_sound env h (absent b) c a x = refl
   nullable_sound env h (sequence r q) c a (v, w, e, x, y) =
       let none = append_empty v w e in
@@ -79,11 +88,15 @@ module _ {T N K : Type 0} {sorts : K → Sort} (G : Grammar T N K sorts) where
   nullable_sound env h (suffix extra r ok q f) c a (inr (l, s, v, w, e1, e2, k, x, y)) =
       absurd (never c.1 (nullable_sound env h r c.4 l (subst (RuleSpells G env r l) ((append_empty v w e2).0) x)))
   nullable_sound env h (starting g r) c a x = absurd x.0
+  nullable_sound env h (bind r null begins goes_on q) c a (v, w, e, x, y) =
+      let none = append_empty v w e in
+      and_both (nullable G r) null (nullable_sound env h r c.1 a.0 (subst (RuleSpells G env r a.0) none.0 x)) ((c.2 a.0).2 (nullable_sound env h (q a.0) ((c.2 a.0).3) a.1 (subst (RuleSpells G env (q a.0) a.1) none.1 y)))
   nullable_sound env h (needs n r) c a x = nullable_sound env h r c.1 a x
   nullable_sound env h (named k) c a x = h k a x
 
   at_least : (env : (k : K) → El T N (sorts k) → List T → Type 0) {s : Sort} (n : ℕ) (r : Rule T N K sorts s) → AtLeast G n r → (a : El T N s) (u : List T) → RuleSpells G env r a u → n ≤ deep T G.depth s a
   at_least env n (token f) c a u x = c a
+  at_least env n (token_where f ok) c a u x = c a
   at_least env n (absent b) c a u x = c a
   at_least env n (sequence r q) c a u x = c a
   at_least env n (choice r q) c a u (inl x) = at_least env n r c.0 a u x
@@ -94,6 +107,7 @@ module _ {T N K : Type 0} {sorts : K → Sort} (G : Grammar T N K sorts) where
   at_least env n (suffixes extra r q f) c a u x = c a
   at_least env n (suffix extra r ok q f) c a u x = c a
   at_least env n (starting g r) c a u x = at_least env n r c a u x.1
+  at_least env n (bind r null begins goes_on q) c a u x = c a
   at_least env n (needs m r) c a u x = at_least env n r c a u x
   at_least env n (named k) c a u x = c a
 
@@ -123,6 +137,7 @@ module _ {T N K : Type 0} {sorts : K → Sort} (G : Grammar T N K sorts) where
 
       pub reads : {s : Sort} (r : Rule T N K sorts s) (b : ℕ) → Checks G r → Good r b
       reads (token f) b c = weaken (token_reads (token_in G.code f) (λ a. 0) b (λ a. le_refl 0)) (λ a u x. x) (λ a u x. x) (λ u x. x) (λ u x. x) (picked G.code f) (λ t k. k) (λ k. k)
+      reads (token_where f ok) b c = weaken (token_reads (token_such G.code f ok) (λ a. 0) b (λ a. le_refl 0)) (λ a u x. x) (λ a u x. x) (λ u x. x) (λ u x. x) (such G.code f ok) (λ t k. k) (λ k. k)
       reads (absent {s = s} a) b c = absent_reads a (deep T G.depth s) b (nat_le (deep T G.depth s a) b) (fits_down _ _) (fits_up _ _)
       reads (sequence r q) b c = weaken (sequence_reads (reads r b c.1) (reads q b c.2) (apart S.within (continues G r) (first G q) c.0))
           (λ a u x. x) (λ a u x. x) (λ u x. x) (λ u x. x) (λ t k. by_nullable (nullable G r) _ _ k) (λ t k. k) (λ k. k)
@@ -143,6 +158,12 @@ module _ {T N K : Type 0} {sorts : K → Sort} (G : Grammar T N K sorts) where
           let R = some_of r b c.1 (reads r b c.4) in
           suffix_reads_at extra b f R (λ l. some_of q l c.2 (reads q l c.5)) ok (λ l u t v h le k here. R.complete l u (t ∷ v) h le (λ i. apart S.within (continues G r) (first G q) c.0 t i here)) c.3 (under (suc extra) b) refl
       reads (starting g r) b c = starting_reads (λ t. g (G.code t)) (some_of r b c.0 (reads r b c.1))
+      reads (bind r null begins goes_on q) b c =
+          weaken (bind_reads {first2 = λ t. begins (G.code t)} {cont2 = λ t. goes_on (G.code t)} {null2 = null} (reads r b c.1)
+          (λ a. let d = c.2 a in weaken (reads (q a) b d.3) (λ x u k. k) (λ x u k. k) (λ u k. k) (λ u k. k)
+          (λ t. included_at G.size (first G (q a)) begins (G.code t) d.0 (S.within t)) (λ t. included_at G.size (continues G (q a)) goes_on (G.code t) d.1 (S.within t)) d.2)
+          (apart S.within (continues G r) begins c.0))
+          (λ a u x. x) (λ a u x. x) (λ u x. x) (λ u x. x) (λ t k. by_nullable (nullable G r) _ _ k) (λ t k. k) (λ k. k)
       reads (needs n r) b c = needs_reads n (reads r b c.1) (λ a u x. at_least sp n r c.0 a u x)
       reads (named k) b c = known b k
 
@@ -166,4 +187,4 @@ module _ {T N K : Type 0} {sorts : K → Sort} (G : Grammar T N K sorts) where
     read_within_reads zero b k = nothing_read k b
     read_within_reads (suc n) b k =
         weaken (reads (Derives G n) (DerivesFront G n) (read_within G n) (derives_nullable n) (λ c k. read_within_reads n c k) (G.production k) b (S.checks k))
-        (λ a u x. x) (λ a u x. x) (λ u x. x) (λ u x. x) (λ t x. in_all_at G.size (first G (G.production k)) (G.name_first k) (G.code t) (S.begins k) (S.within t) x) (λ t x. in_all_at G.size (continues G (G.production k)) (G.name_continues k) (G.code t) (S.goes_on k) (S.within t) x) (S.empties k)
+        (λ a u x. x) (λ a u x. x) (λ u x. x) (λ u x. x) (λ t x. included_at G.size (first G (G.production k)) (G.name_first k) (G.code t) (S.begins k) (S.within t) x) (λ t x. included_at G.size (continues G (G.production k)) (G.name_continues k) (G.code t) (S.goes_on k) (S.within t) x) (S.empties k)

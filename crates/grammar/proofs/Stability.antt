@@ -2,7 +2,7 @@
 use Rattle.std.proofs.Common.{◌≡◌, ℕ, zero, suc, ◌+◌, ◌≤◌, ◌<◌, Bool, true, false, ◌&&◌, List, [], ◌∷◌, ◌++◌, length, Option, Some, None, Result, Ok, Err, inl, inr, refl, sym, ap, ◌∙◌, length-append, arith, le_refl, le_trans, true≢false}
 use Rattle.std.specs.Prelude.{nat_le, ◌&&◌, if◌then◌else◌}
 use Rattle.grammar.specs.FormReaders.{Reads, and_then, next_in, read_many, read_more_suffixes, under, read_suffixes_at, read_suffix_at}
-use Rattle.grammar.specs.Rules.{Sort, El, deep, Rule, token, absent, sequence, choice, view, node, many, suffixes, suffix, starting, needs, named, Grammar}
+use Rattle.grammar.specs.Rules.{Sort, El, deep, Rule, token, token_where, absent, sequence, choice, view, node, many, suffixes, suffix, starting, bind, needs, named, Grammar}
 use Rattle.grammar.specs.Spelling.{RuleSpells, Derives, RuleFront, DerivesFront}
 use Rattle.grammar.specs.Checks.{nullable, first, continues, Checks, Guarded, Predictive}
 use Rattle.grammar.specs.Readers.{Reader, read_rule, read_within, read_named}
@@ -80,6 +80,7 @@ module _ {T N K : Type 0} {sorts : K → Sort} (G : Grammar T N K sorts) (S : Pr
 
   weak : {s : Sort} (r : Rule T N K sorts s) → Checks G r → (b : ℕ) (ts : List T) (L : ℕ) → length ts + b ≤ L → Same L → old r b ts ≡ new r b ts
   weak (token f) c b ts L le h = refl
+  weak (token_where f ok) c b ts L le h = refl
   weak (absent a) c b ts L le h = refl
   weak (sequence r q) c b ts L le h =
       chain_same (old r b ts) (new r b ts) _ _ (weak r c.1 b ts L le h) (λ a rest e. ap (λ o. and_then o (λ x after. Ok ((a, x), after))) (weak q c.2 b rest L (omega (arith, le, used r c.1 b ts a rest e)) h))
@@ -95,12 +96,16 @@ module _ {T N K : Type 0} {sorts : K → Sort} (G : Grammar T N K sorts) (S : Pr
       suffix_same r c.4 q c.5 (first G q) (deep T G.depth s) ok f b ts (weak r c.4 b ts L le h) (under (suc extra) b)
       (λ b' is xs i. weak q c.5 b' xs L (omega (arith, le, i, under_some (suc extra) b b' is)) h)
   weak (starting g r) c b ts L le h = if_same (next_in (λ t. g (G.code t)) ts) _ _ (Err ts) (Err ts) (weak r c.1 b ts L le h) refl
+  weak (bind r null begins goes_on q) c b ts L le h =
+      chain_same (old r b ts) (new r b ts) _ _ (weak r c.1 b ts L le h)
+      (λ a rest e. ap (λ o. and_then o (λ x after. Ok ((a, x), after))) (weak (q a) ((c.2 a).3) b rest L (omega (arith, le, used r c.1 b ts a rest e)) h))
   weak (needs n r) c b ts L le h = if_same (nat_le n b) _ _ (Err ts) (Err ts) (weak r c.1 b ts L le h) refl
   weak (named k) c b ts L le h = h b k ts le
 
   strict : {s : Sort} (r : Rule T N K sorts s) → Checks G r → Guarded G r → (b : ℕ) (ts : List T) (L : ℕ) → length ts + b ≤ L
       → ((c : ℕ) (k : K) (ts : List T) → length ts + c < L → read_within G n c k ts ≡ env' c k ts) → old r b ts ≡ new r b ts
   strict (token f) c d b ts L le h = refl
+  strict (token_where f ok) c d b ts L le h = refl
   strict (absent a) c d b ts L le h = refl
   strict (sequence r q) c d b ts L le h =
       chain_same (old r b ts) (new r b ts) _ _ (strict r c.1 d.0 b ts L le h)
@@ -120,6 +125,12 @@ module _ {T N K : Type 0} {sorts : K → Sort} (G : Grammar T N K sorts) (S : Pr
       suffix_same r c.4 q c.5 (first G q) (deep T G.depth s) ok f b ts (strict r c.4 d b ts L le h) (under (suc extra) b)
       (λ b' is xs i. let lv = under_some (suc extra) b b' is in weak q c.5 b' xs (length ts + b') (omega (arith, i)) (λ c' k t j. h c' k t (omega (arith, j, le, lv))))
   strict (starting g r) c d b ts L le h = if_same (next_in (λ t. g (G.code t)) ts) _ _ (Err ts) (Err ts) (strict r c.1 d b ts L le h) refl
+  strict (bind r null begins goes_on q) c d b ts L le h =
+      chain_same (old r b ts) (new r b ts) _ _ (strict r c.1 d.0 b ts L le h)
+      (λ a rest e. ap (λ o. and_then o (λ x after. Ok ((a, x), after))) (elim d.1 [
+        | inl g ↦ strict (q a) ((c.2 a).3) (g a) b rest L (omega (arith, le, used r c.1 b ts a rest e)) h
+        | inr g ↦ weak (q a) ((c.2 a).3) b rest (length rest + b) (le_refl _) (λ c' k t i. h c' k t (omega (arith, i, le, used_some r c.1 g b ts a rest e)))
+      ]))
   strict (needs n r) c d b ts L le h = if_same (nat_le n b) _ _ (Err ts) (Err ts) (strict r c.1 d b ts L le h) refl
   strict (named k) c d b ts L le h = absurd d
 

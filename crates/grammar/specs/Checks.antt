@@ -1,6 +1,6 @@
 -- What a grammar has to meet so that one token tells how to go on.
 use Rattle.std.specs.Prelude.{◌≡◌, ℕ, zero, suc, ◌+◌, ◌≤◌, ◌<◌, max, Bool, true, false, ◌&&◌, ◌||◌, ◌⊎◌, if◌then◌else◌}
-use Rattle.grammar.specs.Rules.{Sort, El, deep, Rule, token, absent, sequence, choice, view, node, many, suffixes, suffix, starting, needs, named, Grammar}
+use Rattle.grammar.specs.Rules.{Sort, El, deep, Rule, token, token_where, absent, sequence, choice, view, node, many, suffixes, suffix, starting, bind, needs, named, Grammar}
 
 abbrev pub none_below : ℕ → (ℕ → Bool) → Bool
 none_below zero f = true
@@ -13,6 +13,7 @@ module _ {T N K : Type 0} {sorts : K → Sort} (G : Grammar T N K sorts) where
   -- whether no token can spell the rule
   abbrev pub nullable : {s : Sort} → Rule T N K sorts s → Bool
   nullable (token f) = false
+  nullable (token_where f ok) = false
   nullable (absent a) = true
   nullable (sequence r q) = nullable r && nullable q
   nullable (choice r q) = nullable q
@@ -22,12 +23,14 @@ module _ {T N K : Type 0} {sorts : K → Sort} (G : Grammar T N K sorts) where
   nullable (suffixes extra r q f) = false
   nullable (suffix extra r ok q f) = false
   nullable (starting g r) = false
+  nullable (bind r null begins goes_on q) = nullable r && null
   nullable (needs n r) = nullable r
   nullable (named k) = G.name_nullable k
 
   -- the classes of tokens that begin it
   abbrev pub first : {s : Sort} → Rule T N K sorts s → ℕ → Bool
   first (token f) t = f t
+  first (token_where f ok) t = f t
   first (absent a) t = false
   first (sequence r q) t = if nullable r then first r t || first q t else first r t
   first (choice r q) t = first r t || first q t
@@ -37,12 +40,14 @@ module _ {T N K : Type 0} {sorts : K → Sort} (G : Grammar T N K sorts) where
   first (suffixes extra r q f) t = first r t
   first (suffix extra r ok q f) t = first r t
   first (starting g r) t = g t && first r t
+  first (bind r null begins goes_on q) t = if nullable r then first r t || begins t else first r t
   first (needs n r) t = first r t
   first (named k) t = G.name_first k t
 
   -- the classes of tokens that can go on behind a whole one
   abbrev pub continues : {s : Sort} → Rule T N K sorts s → ℕ → Bool
   continues (token f) t = false
+  continues (token_where f ok) t = false
   continues (absent a) t = false
   continues (sequence r q) t = continues q t || (nullable q && continues r t)
   continues (choice r q) t = continues r t || (continues q t || (nullable q && first r t))
@@ -52,6 +57,7 @@ module _ {T N K : Type 0} {sorts : K → Sort} (G : Grammar T N K sorts) where
   continues (suffixes extra r q f) t = continues r t || (continues q t || first q t)
   continues (suffix extra r ok q f) t = continues r t || (continues q t || first q t)
   continues (starting g r) t = continues r t
+  continues (bind r null begins goes_on q) t = goes_on t || (null && continues r t)
   continues (needs n r) t = continues r t
   continues (named k) t = G.name_continues k t
 
@@ -70,6 +76,7 @@ module _ {T N K : Type 0} {sorts : K → Sort} (G : Grammar T N K sorts) where
 
   abbrev pub Checks : {s : Sort} → Rule T N K sorts s → Type 0
   Checks (token f) = Unit {0}
+  Checks (token_where f ok) = Unit {0}
   Checks (absent a) = Unit {0}
   Checks (sequence r q) = Disjoint (continues r) (first q) × Checks r × Checks q
   Checks (choice r q) = Disjoint (first r) (first q) × (nullable r ≡ false) × Checks r × Checks q
@@ -81,12 +88,15 @@ module _ {T N K : Type 0} {sorts : K → Sort} (G : Grammar T N K sorts) where
   Checks (suffix {s = s} {r = r'} extra r ok q f) = Disjoint (continues r) (first q) × (nullable r ≡ false) × (nullable q ≡ false)
       × ((l : El T N s) (x : El T N r') → ok l ≡ true → deep T G.depth s (f l x) ≡ suc (extra + max (deep T G.depth s l) (deep T G.depth r' x))) × Checks r × Checks q
   Checks (starting g r) = (nullable r ≡ false) × Checks r
+  Checks (bind {s = s} r null begins goes_on q) = Disjoint (continues r) begins × Checks r
+      × ((a : El T N s) → (included (G.size) (first (q a)) begins ≡ true) × (included (G.size) (continues (q a)) goes_on ≡ true) × (nullable (q a) ≡ true → null ≡ true) × Checks (q a))
   Checks (needs n r) = AtLeast n r × Checks r
   Checks (named k) = Unit {0}
 
   -- each name in it stands under a node of it, or behind a token of it
   abbrev pub Guarded : {s : Sort} → Rule T N K sorts s → Type 0
   Guarded (token f) = Unit {0}
+  Guarded (token_where f ok) = Unit {0}
   Guarded (absent a) = Unit {0}
   Guarded (sequence r q) = Guarded r × (Guarded q ⊎ (nullable r ≡ false))
   Guarded (choice r q) = Guarded r × Guarded q
@@ -96,6 +106,7 @@ module _ {T N K : Type 0} {sorts : K → Sort} (G : Grammar T N K sorts) where
   Guarded (suffixes extra r q f) = Guarded r
   Guarded (suffix extra r ok q f) = Guarded r
   Guarded (starting g r) = Guarded r
+  Guarded (bind {s = s} r null begins goes_on q) = Guarded r × (((a : El T N s) → Guarded (q a)) ⊎ (nullable r ≡ false))
   Guarded (needs n r) = Guarded r
   Guarded (named k) = ⊥
 

@@ -103,3 +103,6 @@ read_starting g p ts = if next_in g ts then p ts else Err ts
 
 abbrev pub read_needs : {T A : Type 0} → ℕ → ℕ → (List T → Result (A × List T) (List T)) → List T → Result (A × List T) (List T)
 read_needs n b p ts = if nat_le n b then p ts else Err ts
+
+abbrev pub read_bind : {T A B : Type 0} → (List T → Result (A × List T) (List T)) → (A → List T → Result (B × List T) (List T)) → List T → Result ((A × B) × List T) (List T)
+read_bind p q ts = and_then (p ts) (λ a rest. and_then (q a rest) (λ c after. Ok ((a, c), after)))

@@ -92,3 +92,10 @@ StartingFront g F u = (u ≡ []) ⊎ (StartsIn g u × F u)
 -- A rule whose nodes take so many levels as soon as it begins: nothing, or there are so many.
 abbrev pub NeedsFront : {T : Type 0} → ℕ → ℕ → (List T → Type 0) → List T → Type 0
 NeedsFront n b F u = (u ≡ []) ⊎ ((n ≤ b) × F u)
+
+-- one rule after the other, where the second hangs on what the first spells
+abbrev pub BindSpells : {T A B : Type 0} → (A → List T → Type 0) → (A → B → List T → Type 0) → A × B → List T → Type 0
+BindSpells {T} W V x u = (v : List T) × (w : List T) × (u ≡ v ++ w) × W (x.0) v × V (x.0) (x.1) w
+
+abbrev pub BindFront : {T A : Type 0} → (A → List T → Type 0) → (A → ℕ) → ℕ → (List T → Type 0) → (A → List T → Type 0) → List T → Type 0
+BindFront {T} {A} W d b F G u = F u ⊎ ((a : A) × (v : List T) × (w : List T) × (u ≡ v ++ w) × W a v × (d a ≤ b) × G a w)

@@ -1,8 +1,8 @@
 -- The reader of a grammar.
 use Rattle.std.specs.Prelude.{ℕ, zero, suc, ◌+◌, List, length, Result, Err, nat_le}
-use Rattle.grammar.specs.Rules.{Sort, El, deep, Rule, token, absent, sequence, choice, view, node, many, suffixes, suffix, starting, needs, named, Grammar}
-use Rattle.grammar.specs.FormReaders.{read_token, read_absent, read_sequence, read_choice, read_view, read_node, read_many, under, read_suffixes_at, read_suffix_at, read_starting, read_needs}
-use Rattle.grammar.specs.Spelling.{token_in}
+use Rattle.grammar.specs.Rules.{Sort, El, deep, Rule, token, token_where, absent, sequence, choice, view, node, many, suffixes, suffix, starting, bind, needs, named, Grammar}
+use Rattle.grammar.specs.FormReaders.{read_token, read_absent, read_sequence, read_choice, read_view, read_node, read_many, under, read_suffixes_at, read_suffix_at, read_starting, read_bind, read_needs}
+use Rattle.grammar.specs.Spelling.{token_in, token_such}
 use Rattle.grammar.specs.Checks.{first}
 
 module _ {T N K : Type 0} {sorts : K → Sort} (G : Grammar T N K sorts) where
@@ -11,6 +11,7 @@ module _ {T N K : Type 0} {sorts : K → Sort} (G : Grammar T N K sorts) where
 
   abbrev pub read_rule : {s : Sort} → (ℕ → (k : K) → Reader (El T N (sorts k))) → Rule T N K sorts s → ℕ → Reader (El T N s)
   read_rule names (token f) b ts = read_token (token_in G.code f) ts
+  read_rule names (token_where f ok) b ts = read_token (token_such G.code f ok) ts
   read_rule names (absent {s = s} a) b ts = read_absent (nat_le (deep T G.depth s a) b) a ts
   read_rule names (sequence r q) b ts = read_sequence (read_rule names r b) (read_rule names q b) ts
   read_rule names (choice r q) b ts = read_choice (λ t. first G r (G.code t)) (read_rule names r b) (read_rule names q b) ts
@@ -20,6 +21,7 @@ module _ {T N K : Type 0} {sorts : K → Sort} (G : Grammar T N K sorts) where
   read_rule names (suffixes {s = s} extra r q f) b ts = read_suffixes_at (λ t. first G q (G.code t)) (deep T G.depth s) f (read_rule names r b) (λ c. read_rule names q c) (under (suc extra) b) ts
   read_rule names (suffix {s = s} extra r ok q f) b ts = read_suffix_at (λ t. first G q (G.code t)) (deep T G.depth s) ok f (read_rule names r b) (λ c. read_rule names q c) (under (suc extra) b) ts
   read_rule names (starting g r) b ts = read_starting (λ t. g (G.code t)) (read_rule names r b) ts
+  read_rule names (bind r null begins goes_on q) b ts = read_bind (read_rule names r b) (λ a. read_rule names (q a) b) ts
   read_rule names (needs n r) b ts = read_needs n b (read_rule names r b) ts
   read_rule names (named k) b ts = names b k ts
 

@@ -32,6 +32,8 @@ deep T depth (list s) a = deepest (deep T depth s) a
 pub data Rule (T N K : Type 0) (sorts : K → Sort) : Sort → Type 0 where
   -- one token of a class, which is a set of codes
   token : (ℕ → Bool) → Rule T N K sorts leaf
+  -- one token of a class that meets a condition
+  token_where : (ℕ → Bool) → (T → Bool) → Rule T N K sorts leaf
   -- no token
   absent : {s : Sort} → El T N s → Rule T N K sorts s
   sequence : {s r : Sort} → Rule T N K sorts s → Rule T N K sorts r → Rule T N K sorts (pair s r)
@@ -47,6 +49,9 @@ pub data Rule (T N K : Type 0) (sorts : K → Sort) : Sort → Type 0 where
   suffix : {s r : Sort} → ℕ → Rule T N K sorts s → (El T N s → Bool) → Rule T N K sorts r → (El T N s → El T N r → El T N s) → Rule T N K sorts s
   -- a rule that begins with a token of a class
   starting : {s : Sort} → (ℕ → Bool) → Rule T N K sorts s → Rule T N K sorts s
+  -- The second hangs on what the first spells. Whatever that is, these tell whether no token can spell the second, which
+  -- classes begin it, and which can go on behind it.
+  bind : {s r : Sort} → Rule T N K sorts s → Bool → (ℕ → Bool) → (ℕ → Bool) → (El T N s → Rule T N K sorts r) → Rule T N K sorts (pair s r)
   -- a rule that begins only where there are so many levels, as its nodes have
   needs : {s : Sort} → ℕ → Rule T N K sorts s → Rule T N K sorts s
   -- the production of that name
