@@ -1,5 +1,5 @@
 -- How high the derivation of a front has to be, and the reader with enough steps.
-use Rattle.std.proofs.Common.{◌≡◌, ℕ, zero, suc, ◌+◌, ◌≤◌, ◌<◌, true, List, [], ◌++◌, length, inl, inr, sym, ap, ◌∙◌, subst, length-append, arith, le_refl}
+use Rattle.std.proofs.Common.{◌≡◌, ℕ, zero, suc, ◌+◌, ◌≤◌, ◌<◌, true, List, [], ◌++◌, length, inl, inr, refl, sym, ap, ◌∙◌, subst, length-append, arith, le_refl}
 use Rattle.grammar.specs.FormReaders.{Reads}
 use Rattle.grammar.specs.Rules.{Sort, El, deep, Rule, token, token_where, absent, sequence, choice, view, node, many, suffixes, suffix, starting, bind, needs, named, Grammar}
 use Rattle.grammar.specs.Spelling.{RuleSpells, Derives, Spells, RuleFront, DerivesFront, IsFront}
@@ -27,14 +27,14 @@ module _ {T N K : Type 0} {sorts : K → Sort} (G : Grammar T N K sorts) (env en
   front_weak (many {s = s} r) c b u L le h g (xs, v, w, e, m, d, x) =
       let len = ap length e ∙ length-append v w in
       (xs, v, w, e, many_le G s (RuleSpells G env r) (RuleSpells G env' r) L (λ a t l y. weak G env env' no_token r c.2 a t L l h y) xs v (omega (arith, le, len, d)) m, d, front_weak r c.2 b w L (omega (arith, le, len)) h g x)
-  front_weak (suffixes extra r q f) c b u L le h g (inl x) = inl (front_weak r c.5 b u L le h g x)
-  front_weak (suffixes {s = s} {r = r'} extra r q f) c b u L le h g (inr (b', lv, (l, v, w, e, (k, m), d, x))) =
+  front_weak (suffixes levels r q f) c b u L le h g (inl x) = inl (front_weak r c.5 b u L le h g x)
+  front_weak (suffixes {s = s} {r = r'} levels r q f) c b u L le h g (inr (b', lv, (l, v, w, e, (k, m), d, x))) =
       let len = ap length e ∙ length-append v w in
-      let chain = chain_le G extra s r' (RuleSpells G env r) (RuleSpells G env' r) (RuleSpells G env q) (RuleSpells G env' q) f c.4 L
+      let chain = chain_le G levels s r' (RuleSpells G env r) (RuleSpells G env' r) (RuleSpells G env q) (RuleSpells G env' q) f c.4 L
       (λ a t i y. weak G env env' no_token r c.5 a t L i h y) (λ a t i y. weak G env env' no_token q c.6 a t L i h y) k l v (omega (arith, le, lv, len, d)) m in
       inr (b', lv, (l, v, w, e, (k, chain), d, front_weak q c.6 b' w L (omega (arith, le, lv, len)) h g x))
-  front_weak (suffix extra r ok q f) c b u L le h g (inl x) = inl (front_weak r c.4 b u L le h g x)
-  front_weak (suffix extra r ok q f) c b u L le h g (inr (b', lv, (l, v, w, e, k, m, d, x))) =
+  front_weak (suffix levels r ok q f) c b u L le h g (inl x) = inl (front_weak r c.4 b u L le h g x)
+  front_weak (suffix levels r ok q f) c b u L le h g (inr (b', lv, (l, v, w, e, k, m, d, x))) =
       let len = ap length e ∙ length-append v w in
       inr (b', lv, (l, v, w, e, k, weak G env env' no_token r c.4 l v L (omega (arith, le, lv, len, d)) h m, d, front_weak q c.5 b' w L (omega (arith, le, lv, len)) h g x))
   front_weak (starting t r) c b u L le h g (inl x) = inl x
@@ -78,23 +78,40 @@ module _ {T N K : Type 0} {sorts : K → Sort} (G : Grammar T N K sorts) (env en
   front_strict (many {s = s} r) c gd b u L le h g (xs, v, w, e, m, d, x) =
       let len = ap length e ∙ length-append v w in
       (xs, v, w, e, many_le G s (RuleSpells G env r) (RuleSpells G env' r) L (λ a t l y. strict G env env' no_token r c.2 gd a t L l h y) xs v (omega (arith, le, len, d)) m, d, front_strict r c.2 gd b w L (omega (arith, le, len)) h g x)
-  front_strict (suffixes extra r q f) c gd b u L le h g (inl x) = inl (front_strict r c.5 gd b u L le h g x)
-  front_strict (suffixes {s = s} {r = r'} extra r q f) c gd b u L le h g (inr (b', lv, (l, v, w, e, (k, m), d, x))) =
+  front_strict (suffixes levels r q f) c gd b u L le h g (inl x) = inl (front_strict r c.5 gd b u L le h g x)
+  front_strict (suffixes levels r q f) c gd b u L le h g (inr (b', lv, (l, v, w, e, m, d, x))) =
       let len = ap length e ∙ length-append v w in
-      let M = length u + b' in
-      let h' : (k : K) (a : El T N (sorts k)) (t : List T) → length t + deep T G.depth (sorts k) a ≤ M → env k a t → env' k a t = λ k a t i p. h k a t (omega (arith, i, le, lv)) p in
-      let chain = chain_le G extra s r' (RuleSpells G env r) (RuleSpells G env' r) (RuleSpells G env q) (RuleSpells G env' q) f c.4 M
-      (λ a t i y. weak G env env' no_token r c.5 a t M i h' y) (λ a t i y. weak G env env' no_token q c.6 a t M i h' y) k l v (omega (arith, len, d)) m in
-      inr (b', lv, (l, v, w, e, (k, chain), d, front_weak q c.6 b' w M (omega (arith, len)) h' (λ k a t i p. g k a t (omega (arith, i, le, lv)) p) x))
-  front_strict (suffix extra r ok q f) c gd b u L le h g (inl x) = inl (front_strict r c.4 gd b u L le h g x)
-  front_strict (suffix extra r ok q f) c gd b u L le h g (inr (b', lv, (l, v, w, e, k, m, d, x))) =
-      let len = ap length e ∙ length-append v w in
-      let M = length u + b' in
-      let h' : (k : K) (a : El T N (sorts k)) (t : List T) → length t + deep T G.depth (sorts k) a ≤ M → env k a t → env' k a t = λ k a t i p. h k a t (omega (arith, i, le, lv)) p in
+      let before = some_token G env env' no_token (suffixes levels r q f) c refl l v m in
       inr (
         b',
         lv,
-        (l, v, w, e, k, weak G env env' no_token r c.4 l v M (omega (arith, len, d)) h' m, d, front_weak q c.5 b' w M (omega (arith, len)) h' (λ k a t i p. g k a t (omega (arith, i, le, lv)) p) x),
+        (
+          l,
+          v,
+          w,
+          e,
+          strict G env env' no_token (suffixes levels r q f) c gd l v L (omega (arith, le, lv, len, d)) h m,
+          d,
+          front_weak q c.6 b' w (length w + b') (le_refl _) (λ k a t i p. h k a t (omega (arith, i, le, lv, len, before)) p) (λ k a t i p. g k a t (omega (arith, i, le, lv, len, before)) p) x,
+        ),
+      )
+  front_strict (suffix levels r ok q f) c gd b u L le h g (inl x) = inl (front_strict r c.4 gd b u L le h g x)
+  front_strict (suffix levels r ok q f) c gd b u L le h g (inr (b', lv, (l, v, w, e, k, m, d, x))) =
+      let len = ap length e ∙ length-append v w in
+      let before = some_token G env env' no_token r c.4 c.1 l v m in
+      inr (
+        b',
+        lv,
+        (
+          l,
+          v,
+          w,
+          e,
+          k,
+          strict G env env' no_token r c.4 gd l v L (omega (arith, le, lv, len, d)) h m,
+          d,
+          front_weak q c.5 b' w (length w + b') (le_refl _) (λ k a t i p. h k a t (omega (arith, i, le, lv, len, before)) p) (λ k a t i p. g k a t (omega (arith, i, le, lv, len, before)) p) x,
+        ),
       )
   front_strict (starting t r) c gd b u L le h g (inl x) = inl x
   front_strict (starting t r) c gd b u L le h g (inr x) = inr (x.0, front_strict r c.1 gd b u L le h g x.1)

@@ -1,5 +1,5 @@
 -- How high a derivation has to be: each name stands under a node or behind a token.
-use Rattle.std.proofs.Common.{◌≡◌, ℕ, zero, suc, ◌+◌, ◌≤◌, ◌<◌, max, true, false, List, [], ◌∷◌, length, inl, inr, sym, ap, ◌∙◌, length-append, arith, le_refl, true≢false}
+use Rattle.std.proofs.Common.{◌≡◌, ℕ, zero, suc, ◌+◌, ◌≤◌, ◌<◌, max, true, false, List, [], ◌∷◌, length, inl, inr, refl, sym, ap, ◌∙◌, length-append, arith, le_refl, true≢false}
 use Rattle.grammar.specs.Forms.{ManySpells, deepest, ChainSpells}
 use Rattle.grammar.specs.Rules.{Sort, El, deep, Rule, token, token_where, absent, sequence, choice, view, node, many, suffixes, suffix, starting, bind, needs, named, Grammar}
 use Rattle.grammar.specs.Spelling.{RuleSpells, Derives}
@@ -13,19 +13,19 @@ module _ {T N K : Type 0} {sorts : K → Sort} (G : Grammar T N K sorts) where
   many_le s V V' L h (a ∷ xs) u le (v, w, e, x, m) =
       (v, w, e, h a v (omega (arith, le, ap length e ∙ length-append v w)) x, many_le s V V' L h xs w (omega (arith, le, ap length e ∙ length-append v w)) m)
 
-  pub chain_le : (extra : ℕ) (s s' : Sort) (V V' : El T N s → List T → Type 0) (U U' : El T N s' → List T → Type 0) (f : El T N s → El T N s' → El T N s)
-      → ((l : El T N s) (x : El T N s') → deep T G.depth s (f l x) ≡ suc (extra + max (deep T G.depth s l) (deep T G.depth s' x))) → (L : ℕ)
+  pub chain_le : (levels : ℕ) (s s' : Sort) (V V' : El T N s → List T → Type 0) (U U' : El T N s' → List T → Type 0) (f : El T N s → El T N s' → El T N s)
+      → ((l : El T N s) (x : El T N s') → deep T G.depth s (f l x) ≡ levels + max (deep T G.depth s l) (deep T G.depth s' x)) → (L : ℕ)
       → ((a : El T N s) (u : List T) → length u + deep T G.depth s a ≤ L → V a u → V' a u) → ((a : El T N s') (u : List T) → length u + deep T G.depth s' a ≤ L → U a u → U' a u)
       → (k : ℕ) (x : El T N s) (u : List T) → length u + deep T G.depth s x ≤ L → ChainSpells V U f k x u → ChainSpells V' U' f k x u
-  chain_le extra s s' V V' U U' f over L h g zero x u le m = h x u le m
-  chain_le extra s s' V V' U U' f over L h g (suc k) x u le (l, z, v, w, e1, e2, m, y) = (
+  chain_le levels s s' V V' U U' f over L h g zero x u le m = h x u le m
+  chain_le levels s s' V V' U U' f over L h g (suc k) x u le (l, z, v, w, e1, e2, m, y) = (
     l,
     z,
     v,
     w,
     e1,
     e2,
-    chain_le extra s s' V V' U U' f over L h g k l v (omega (arith, le, ap length e2 ∙ length-append v w, ap (deep T G.depth s) e1, over l z)) m,
+    chain_le levels s s' V V' U U' f over L h g k l v (omega (arith, le, ap length e2 ∙ length-append v w, ap (deep T G.depth s) e1, over l z)) m,
     g z w (omega (arith, le, ap length e2 ∙ length-append v w, ap (deep T G.depth s) e1, over l z)) y,
   )
 
@@ -42,10 +42,10 @@ module _ {T N K : Type 0} {sorts : K → Sort} (G : Grammar T N K sorts) where
     weak (view {r = r'} f r) c a u L le h (b, e, x) = (b, e, weak r c.1 b u L (omega (arith, le, ap (deep T G.depth r') e, c.0 b)) h x)
     weak (node {r = r'} f r) c a u L le h (b, e, x) = (b, e, weak r c.1 b u L (omega (arith, le, ap (deep T G.depth r') e, c.0 b)) h x)
     weak (many {s = s} r) c xs u L le h m = many_le s (RuleSpells G env r) (RuleSpells G env' r) L (λ a v l x. weak r c.2 a v L l h x) xs u le m
-    weak (suffixes {s = s} {r = r'} extra r q f) c x u L le h (k, m) =
-        (k, chain_le extra s r' (RuleSpells G env r) (RuleSpells G env' r) (RuleSpells G env q) (RuleSpells G env' q) f c.4 L (λ a v l y. weak r c.5 a v L l h y) (λ a v l y. weak q c.6 a v L l h y) k x u le m)
-    weak (suffix {s = s} extra r ok q f) c x u L le h (inl m) = inl (weak r c.4 x u L le h m)
-    weak (suffix {s = s} extra r ok q f) c x u L le h (inr (l, z, v, w, e1, e2, k, m, y)) =
+    weak (suffixes {s = s} {r = r'} levels r q f) c x u L le h (k, m) =
+        (k, chain_le levels s r' (RuleSpells G env r) (RuleSpells G env' r) (RuleSpells G env q) (RuleSpells G env' q) f c.4 L (λ a v l y. weak r c.5 a v L l h y) (λ a v l y. weak q c.6 a v L l h y) k x u le m)
+    weak (suffix {s = s} levels r ok q f) c x u L le h (inl m) = inl (weak r c.4 x u L le h m)
+    weak (suffix {s = s} levels r ok q f) c x u L le h (inr (l, z, v, w, e1, e2, k, m, y)) =
         inr (
           l,
           z,
@@ -92,10 +92,12 @@ module _ {T N K : Type 0} {sorts : K → Sort} (G : Grammar T N K sorts) where
     strict (node {s = s} {r = r'} f r) c d a u L le h (b, e, x) =
         (b, e, weak r c.1 b u (length u + deep T G.depth s b) (le_refl _) (λ k a v l z. h k a v (omega (arith, l, le, ap (deep T G.depth r') e, c.0 b)) z) x)
     strict (many {s = s} r) c d xs u L le h m = many_le s (RuleSpells G env r) (RuleSpells G env' r) L (λ a v l x. strict r c.2 d a v L l h x) xs u le m
-    strict (suffixes extra r q f) c d x u L le h (zero, m) = (0, strict r c.5 d x u L le h m)
-    strict (suffixes {s = s} {r = r'} extra r q f) c d x u L le h (suc k, (l, z, v, w, e1, e2, m, y)) =
+    strict (suffixes levels r q f) c d x u L le h (zero, m) = (0, strict r c.5 d x u L le h m)
+    strict (suffixes {s = s} {r = r'} levels r q f) c d x u L le h (suc k, (l, z, v, w, e1, e2, m, y)) =
         let len = ap length e2 ∙ length-append v w in
         let high = ap (deep T G.depth s) e1 ∙ c.4 l z in
+        let before = some_token (suffixes levels r q f) c refl l v (k, m) in
+        let behind = some_token q c.6 c.3 z w y in
         let M = length v + deep T G.depth s l in (
           suc k,
           (
@@ -105,16 +107,17 @@ module _ {T N K : Type 0} {sorts : K → Sort} (G : Grammar T N K sorts) where
             w,
             e1,
             e2,
-            chain_le extra s r' (RuleSpells G env r) (RuleSpells G env' r) (RuleSpells G env q) (RuleSpells G env' q) f c.4 M
-                (λ a t i o. weak r c.5 a t M i (λ k a t j p. h k a t (omega (arith, j, le, len, high)) p) o)
-                (λ a t i o. weak q c.6 a t M i (λ k a t j p. h k a t (omega (arith, j, le, len, high)) p) o) k l v (le_refl _) m,
-            weak q c.6 z w (length w + deep T G.depth r' z) (le_refl _) (λ k a t j p. h k a t (omega (arith, j, le, len, high)) p) y,
+            chain_le levels s r' (RuleSpells G env r) (RuleSpells G env' r) (RuleSpells G env q) (RuleSpells G env' q) f c.4 M
+                (λ a t i o. weak r c.5 a t M i (λ k a t j p. h k a t (omega (arith, j, le, len, high, behind)) p) o)
+                (λ a t i o. weak q c.6 a t M i (λ k a t j p. h k a t (omega (arith, j, le, len, high, behind)) p) o) k l v (le_refl _) m,
+            weak q c.6 z w (length w + deep T G.depth r' z) (le_refl _) (λ k a t j p. h k a t (omega (arith, j, le, len, high, before)) p) y,
           ),
         )
-    strict (suffix extra r ok q f) c d x u L le h (inl m) = inl (strict r c.4 d x u L le h m)
-    strict (suffix {s = s} {r = r'} extra r ok q f) c d x u L le h (inr (l, z, v, w, e1, e2, k, m, y)) =
+    strict (suffix levels r ok q f) c d x u L le h (inl m) = inl (strict r c.4 d x u L le h m)
+    strict (suffix {s = s} {r = r'} levels r ok q f) c d x u L le h (inr (l, z, v, w, e1, e2, k, m, y)) =
         let len = ap length e2 ∙ length-append v w in
         let high = ap (deep T G.depth s) e1 ∙ c.3 l z k in
+        let before = some_token r c.4 c.1 l v m in
         inr (
           l,
           z,
@@ -123,8 +126,8 @@ module _ {T N K : Type 0} {sorts : K → Sort} (G : Grammar T N K sorts) where
           e1,
           e2,
           k,
-          weak r c.4 l v (length v + deep T G.depth s l) (le_refl _) (λ k a t j p. h k a t (omega (arith, j, le, len, high)) p) m,
-          weak q c.5 z w (length w + deep T G.depth r' z) (le_refl _) (λ k a t j p. h k a t (omega (arith, j, le, len, high)) p) y,
+          strict r c.4 d l v L (omega (arith, le, len, high)) h m,
+          weak q c.5 z w (length w + deep T G.depth r' z) (le_refl _) (λ k a t j p. h k a t (omega (arith, j, le, len, high, before)) p) y,
         )
     strict (starting g r) c d a u L le h x = (x.0, strict r c.1 d a u L le h x.1)
     strict (bind {s = s'} {r = r'} r null begins goes_on q) c d a u L le h (v, w, e, x, y) =

@@ -83,9 +83,9 @@ module _ {T N K : Type 0} {sorts : K → Sort} (G : Grammar T N K sorts) where
   nullable_sound env h (view f r) c a (b, e, x) = nullable_sound env h r c.1 b x
   nullable_sound env h (node f r) c a (b, e, x) = nullable_sound env h r c.1 b x
   nullable_sound env h (many r) c a x = refl
-  nullable_sound env h (suffixes extra r q f) c a (k, x) = absurd (chain_token (RuleSpells G env r) (RuleSpells G env q) f (λ b y. never c.2 (nullable_sound env h r c.5 b y)) (λ b y. never c.3 (nullable_sound env h q c.6 b y)) k a x)
-  nullable_sound env h (suffix extra r ok q f) c a (inl x) = absurd (never c.1 (nullable_sound env h r c.4 a x))
-  nullable_sound env h (suffix extra r ok q f) c a (inr (l, s, v, w, e1, e2, k, x, y)) =
+  nullable_sound env h (suffixes levels r q f) c a (k, x) = absurd (chain_token (RuleSpells G env r) (RuleSpells G env q) f (λ b y. never c.2 (nullable_sound env h r c.5 b y)) (λ b y. never c.3 (nullable_sound env h q c.6 b y)) k a x)
+  nullable_sound env h (suffix levels r ok q f) c a (inl x) = absurd (never c.1 (nullable_sound env h r c.4 a x))
+  nullable_sound env h (suffix levels r ok q f) c a (inr (l, s, v, w, e1, e2, k, x, y)) =
       absurd (never c.1 (nullable_sound env h r c.4 l (subst (RuleSpells G env r l) ((append_empty v w e2).0) x)))
   nullable_sound env h (starting g r) c a x = absurd x.0
   nullable_sound env h (bind r null begins goes_on q) c a (v, w, e, x, y) =
@@ -104,8 +104,8 @@ module _ {T N K : Type 0} {sorts : K → Sort} (G : Grammar T N K sorts) where
   at_least env {s} n (view f r) c a u (b, e, x) = subst (λ z. n ≤ deep T G.depth s z) (sym e) (c b)
   at_least env {s} n (node f r) c a u (b, e, x) = subst (λ z. n ≤ deep T G.depth s z) (sym e) (c b)
   at_least env n (many r) c a u x = c a
-  at_least env n (suffixes extra r q f) c a u x = c a
-  at_least env n (suffix extra r ok q f) c a u x = c a
+  at_least env n (suffixes levels r q f) c a u x = c a
+  at_least env n (suffix levels r ok q f) c a u x = c a
   at_least env n (starting g r) c a u x = at_least env n r c a u x.1
   at_least env n (bind r null begins goes_on q) c a u x = c a
   at_least env n (needs m r) c a u x = at_least env n r c a u x
@@ -152,11 +152,11 @@ module _ {T N K : Type 0} {sorts : K → Sort} (G : Grammar T N K sorts) where
       reads (node {s = s} {r = r'} f r) (suc b) c =
           view_reads f (deep T G.depth r') (suc b) (reads r b c.1) (λ a le. omega (arith, c.0 a, le)) (λ a le. omega (arith, c.0 a, le))
       reads (many r) b c = many_reads (some_of r b c.1 (reads r b c.2)) (apart S.within (continues G r) (first G r) c.0)
-      reads (suffixes {s = s} {r = r'} extra r q f) b c =
-          suffixes_reads_at extra b f (some_of r b c.2 (reads r b c.5)) (λ l. some_of q l c.3 (reads q l c.6)) (apart S.within (continues G r) (first G q) c.0) (apart S.within (continues G q) (first G q) c.1) c.4 (under (suc extra) b) refl
-      reads (suffix {s = s} {r = r'} extra r ok q f) b c =
+      reads (suffixes {s = s} {r = r'} levels r q f) b c =
+          suffixes_reads_at levels b f (some_of r b c.2 (reads r b c.5)) (λ l. some_of q l c.3 (reads q l c.6)) (apart S.within (continues G r) (first G q) c.0) (apart S.within (continues G q) (first G q) c.1) c.4 (under levels b) refl
+      reads (suffix {s = s} {r = r'} levels r ok q f) b c =
           let R = some_of r b c.1 (reads r b c.4) in
-          suffix_reads_at extra b f R (λ l. some_of q l c.2 (reads q l c.5)) ok (λ l u t v h le k here. R.complete l u (t ∷ v) h le (λ i. apart S.within (continues G r) (first G q) c.0 t i here)) c.3 (under (suc extra) b) refl
+          suffix_reads_at levels b f R (λ l. some_of q l c.2 (reads q l c.5)) ok (λ l u t v h le k here. R.complete l u (t ∷ v) h le (λ i. apart S.within (continues G r) (first G q) c.0 t i here)) c.3 (under levels b) refl
       reads (starting g r) b c = starting_reads (λ t. g (G.code t)) (some_of r b c.0 (reads r b c.1))
       reads (bind r null begins goes_on q) b c =
           weaken (bind_reads {first2 = λ t. begins (G.code t)} {cont2 = λ t. goes_on (G.code t)} {null2 = null} (reads r b c.1)

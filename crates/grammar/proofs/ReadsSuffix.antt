@@ -1,17 +1,17 @@
 -- A rule with at most one part behind it.
-use Rattle.std.proofs.Common.{◌≡◌, ℕ, suc, ◌+◌, ◌≤◌, max, Bool, true, false, ◌&&◌, ◌||◌, List, [], ◌∷◌, ◌++◌, length, Result, Ok, Err, ◌⊎◌, inl, inr, refl, sym, ap, ◌∙◌, subst, append_assoc, append-nil, arith, le_refl, le_trans, true≢false}
+use Rattle.std.proofs.Common.{◌≡◌, ℕ, ◌+◌, ◌≤◌, max, Bool, true, false, ◌&&◌, ◌||◌, List, [], ◌∷◌, ◌++◌, length, Result, Ok, Err, ◌⊎◌, inl, inr, refl, sym, ap, ◌∙◌, subst, append_assoc, append-nil, arith, le_refl, le_trans, true≢false}
 use Rattle.std.specs.Prelude.{if◌then◌else◌}
 use Rattle.grammar.specs.Forms.{SuffixSpells, BehindSuffix}
 use Rattle.grammar.specs.FormReaders.{NextNotIn, remaining, Reads, and_then, read_one_suffix, read_suffix}
 use Rattle.grammar.proofs.Lists.{ok_err, ok_inj, heads, bind_ok, bind_err, cut, append_empty, or_left, or_right, and_split, and_both, cases_if, if_true, if_false, le_of_eq}
 
-module _ {T A S : Type 0} {W : A → List T → Type 0} {F : List T → Type 0} {d : A → ℕ} {V : S → List T → Type 0} {G : List T → Type 0} {e : S → ℕ} {b : ℕ} (B extra : ℕ) (lv : B ≡ suc (extra + b))
+module _ {T A S : Type 0} {W : A → List T → Type 0} {F : List T → Type 0} {d : A → ℕ} {V : S → List T → Type 0} {G : List T → Type 0} {e : S → ℕ} {b : ℕ} (B levels : ℕ) (lv : B ≡ levels + b)
     {first1 cont1 first2 cont2 : T → Bool} {p : List T → Result (A × List T) (List T)} {q : List T → Result (S × List T) (List T)}
     (f : A → S → A) (ok : A → Bool) (fits : A → Bool)
     (R : Reads W F d B first1 cont1 false p) (Q : Reads V G e b first2 cont2 false q)
     (stops : (l : A) (u : List T) (t : T) (r : List T) → W l u → d l ≤ B → ok l ≡ true → first2 t ≡ true → p (u ++ t ∷ r) ≡ Ok (l, t ∷ r))
     (fits_is : (l : A) → fits l ≡ true → (ok l ≡ true) × (d l ≤ b)) (fits_if : (l : A) → ok l ≡ true → d l ≤ b → fits l ≡ true)
-    (over : (l : A) (s : S) (w : List T) → ok l ≡ true → V s w → d (f l s) ≡ suc (extra + max (d l) (e s))) where
+    (over : (l : A) (s : S) (w : List T) → ok l ≡ true → V s w → d (f l s) ≡ levels + max (d l) (e s)) where
   abbrev pub tail_cont : T → Bool
   tail_cont t = cont1 t || (cont2 t || first2 t)
 
@@ -105,7 +105,7 @@ module _ {T A S : Type 0} {W : A → List T → Type 0} {F : List T → Type 0} 
   tail_complete x u rest (inl h) le off = ap (λ r. and_then r one) (R.complete x u rest h le (off_1 rest off)) ∙ one_end x rest off
   tail_complete x u rest (inr (l, s, v, [], e1, e2, k, h, g)) le off = absurd (true≢false (sym (Q.empty s g)))
   tail_complete x u rest (inr (l, s, v, t ∷ w, e1, e2, k, h, g)) le off =
-      let deep : d x ≡ suc (extra + max (d l) (e s)) = ap d e1 ∙ over l s (t ∷ w) k g in
+      let deep : d x ≡ levels + max (d l) (e s) = ap d e1 ∙ over l s (t ∷ w) k g in
       let le2 : e s ≤ b = omega (arith, deep, le) in
       let again : u ++ rest ≡ v ++ ((t ∷ w) ++ rest) = ap (λ z. z ++ rest) e2 ∙ append_assoc v (t ∷ w) rest in
       ap read again ∙ begin l v t w rest h k (omega (arith, deep, le)) (Q.starts t w (Q.holds s (t ∷ w) g le2))
@@ -143,7 +143,7 @@ module _ {T A S : Type 0} {W : A → List T → Type 0} {F : List T → Type 0} 
   tail_holds : (x : A) (u : List T) → Whole x u → d x ≤ B → Front u
   tail_holds x u (inl h) le = inl (R.holds x u h le)
   tail_holds x u (inr (l, s, v, w, e1, e2, k, h, g)) le =
-      let deep : d x ≡ suc (extra + max (d l) (e s)) = ap d e1 ∙ over l s w k g in
+      let deep : d x ≡ levels + max (d l) (e s) = ap d e1 ∙ over l s w k g in
       inr (l, v, w, e2, k, h, omega (arith, deep, le), Q.holds s w g (omega (arith, deep, le)))
 
   tail_closed : (u v : List T) → Front (u ++ v) → Front u

@@ -5,13 +5,13 @@ use Rattle.grammar.specs.Forms.{ChainSpells, SuffixesSpell, BehindSuffixes}
 use Rattle.grammar.specs.FormReaders.{NextNotIn, Apart, remaining, Reads, and_then, read_more_suffixes, read_suffixes}
 use Rattle.grammar.proofs.Lists.{ok_err, ok_inj, heads, bind_ok, bind_err, cut, append_empty, or_left, or_right, and_split, and_both, cases_if, if_true, if_false, le_of_eq}
 
-module _ {T A S : Type 0} {W : A → List T → Type 0} {F : List T → Type 0} {d : A → ℕ} {V : S → List T → Type 0} {G : List T → Type 0} {e : S → ℕ} {b : ℕ} (B extra : ℕ) (lv : B ≡ suc (extra + b))
+module _ {T A S : Type 0} {W : A → List T → Type 0} {F : List T → Type 0} {d : A → ℕ} {V : S → List T → Type 0} {G : List T → Type 0} {e : S → ℕ} {b : ℕ} (B levels : ℕ) (lv : B ≡ levels + b)
     {first1 cont1 first2 cont2 : T → Bool} {p : List T → Result (A × List T) (List T)} {q : List T → Result (S × List T) (List T)}
     (f : A → S → A) (fits : A → Bool)
     (R : Reads W F d B first1 cont1 false p) (Q : Reads V G e b first2 cont2 false q)
     (apart1 : Apart cont1 first2) (apart2 : Apart cont2 first2)
     (fits_is : (l : A) → fits l ≡ true → d l ≤ b) (fits_if : (l : A) → d l ≤ b → fits l ≡ true)
-    (over : (l : A) (s : S) → d (f l s) ≡ suc (extra + max (d l) (e s))) where
+    (over : (l : A) (s : S) → d (f l s) ≡ levels + max (d l) (e s)) where
   abbrev pub left_cont : T → Bool
   left_cont t = cont1 t || (cont2 t || first2 t)
 
@@ -89,7 +89,7 @@ module _ {T A S : Type 0} {W : A → List T → Type 0} {F : List T → Type 0} 
   run zero x u rest h le off1 off2 = (length rest, le_refl _, ap (λ r. and_then r (λ l r. loop (length r) l r)) (R.complete x u rest h le off1))
   run (suc k) x u rest (l, s, v, [], e1, e2, h, g) le off1 off2 = absurd (true≢false (sym (Q.empty s g)))
   run (suc k) x u rest (l, s, v, t ∷ w, e1, e2, h, g) le off1 off2 =
-      let deep : d x ≡ suc (extra + max (d l) (e s)) = ap d e1 ∙ over l s in
+      let deep : d x ≡ levels + max (d l) (e s) = ap d e1 ∙ over l s in
       let le1 : d l ≤ b = omega (arith, deep, le) in
       let le2 : e s ≤ b = omega (arith, deep, le) in
       let here = Q.starts t w (Q.holds s (t ∷ w) g le2) in
@@ -172,7 +172,7 @@ module _ {T A S : Type 0} {W : A → List T → Type 0} {F : List T → Type 0} 
   whole_reach zero x u v h le = base_reach u v (R.holds x u h le)
   whole_reach (suc k) x u v (l, s, y, [], e1, e2, h, g) le = absurd (true≢false (sym (Q.empty s g)))
   whole_reach (suc k) x u v (l, s, y, t ∷ w, e1, e2, h, g) le =
-      let deep : d x ≡ suc (extra + max (d l) (e s)) = ap d e1 ∙ over l s in
+      let deep : d x ≡ levels + max (d l) (e s) = ap d e1 ∙ over l s in
       let again : u ++ v ≡ y ++ ((t ∷ w) ++ v) = ap (λ z. z ++ v) e2 ∙ append_assoc y (t ∷ w) v in
       subst (λ z. remaining (read z) ≤ length v) (sym again) (behind l y t w v (k, h) (omega (arith, deep, le)) (Q.holds s (t ∷ w) g (omega (arith, deep, le))))
 
@@ -193,7 +193,7 @@ module _ {T A S : Type 0} {W : A → List T → Type 0} {F : List T → Type 0} 
   chain_starts zero x t u h le = R.starts t u (R.holds x (t ∷ u) h le)
   chain_starts (suc k) x t u (l, s, [], w, e1, e2, h, g) le = absurd (some_token k l h)
   chain_starts (suc k) x t u (l, s, t' ∷ v, w, e1, e2, h, g) le =
-      let deep : d x ≡ suc (extra + max (d l) (e s)) = ap d e1 ∙ over l s in
+      let deep : d x ≡ levels + max (d l) (e s) = ap d e1 ∙ over l s in
       subst (λ z. first1 z ≡ true) (sym (heads e2)) (chain_starts k l t' v h (omega (arith, deep, le)))
 
   left_starts : (t : T) (u : List T) → Front (t ∷ u) → first1 t ≡ true
@@ -204,7 +204,7 @@ module _ {T A S : Type 0} {W : A → List T → Type 0} {F : List T → Type 0} 
   chain_closed : (k : ℕ) (x : A) (u m : List T) → ChainSpells W V f k x (u ++ m) → d x ≤ B → Front u
   chain_closed zero x u m h le = inl (R.closed u m (R.holds x (u ++ m) h le))
   chain_closed (suc k) x u m (l, s, v, w, e1, e2, h, g) le =
-      let deep : d x ≡ suc (extra + max (d l) (e s)) = ap d e1 ∙ over l s in
+      let deep : d x ≡ levels + max (d l) (e s) = ap d e1 ∙ over l s in
       elim (cut u m v w e2) [
         | inl i ↦ inr (l, v, i.0, i.1, (k, h), omega (arith, deep, le), Q.closed i.0 m (subst G i.2 (Q.holds s w g (omega (arith, deep, le)))))
         | inr i ↦ chain_closed k l u i.0 (subst (ChainSpells W V f k l) i.1 h) (omega (arith, deep, le))
@@ -220,7 +220,7 @@ module _ {T A S : Type 0} {W : A → List T → Type 0} {F : List T → Type 0} 
   left_holds : (k : ℕ) (x : A) (u : List T) → ChainSpells W V f k x u → d x ≤ B → Front u
   left_holds zero x u h le = inl (R.holds x u h le)
   left_holds (suc k) x u (l, s, v, w, e1, e2, h, g) le =
-      let deep : d x ≡ suc (extra + max (d l) (e s)) = ap d e1 ∙ over l s in
+      let deep : d x ≡ levels + max (d l) (e s) = ap d e1 ∙ over l s in
       inr (l, v, w, e2, (k, h), omega (arith, deep, le), Q.holds s w g (omega (arith, deep, le)))
 
   pub suffixes_reads : Reads (SuffixesSpell W V f) Front d B first1 left_cont false (read_suffixes first2 fits f p q)

@@ -58,22 +58,22 @@ module _ {T N K : Type 0} {sorts : K → Sort} (G : Grammar T N K sorts) (S : Pr
       (λ x rest e. loop_same q c b begins fits f len h m (f l x) rest (le_trans (used q c b ts x rest e) le))) refl
 
   -- with parts behind, whose levels are under a node where there are such
-  suffixes_same : {s s' : Sort} (r : Rule T N K sorts s) (c1 : Checks G r) (q : Rule T N K sorts s') (c2 : Checks G q) (ft : ℕ → Bool) (d : El T N s → ℕ) (f : El T N s → El T N s' → El T N s) (b : ℕ) (ts : List T) → old r b ts ≡ new r b ts → (o : Option ℕ)
-      → ((c : ℕ) → o ≡ Some c → (xs : List T) → length xs ≤ length ts → old q c xs ≡ new q c xs)
+  suffixes_same : {s s' : Sort} (r : Rule T N K sorts s) (c1 : Checks G r) (full : nullable G r ≡ false) (q : Rule T N K sorts s') (c2 : Checks G q) (ft : ℕ → Bool) (d : El T N s → ℕ) (f : El T N s → El T N s' → El T N s) (b : ℕ) (ts : List T) → old r b ts ≡ new r b ts → (o : Option ℕ)
+      → ((c : ℕ) → o ≡ Some c → (xs : List T) → length xs < length ts → old q c xs ≡ new q c xs)
       → read_suffixes_at (λ t. ft (G.code t)) d f (old r b) (λ c. old q c) o ts ≡ read_suffixes_at (λ t. ft (G.code t)) d f (new r b) (λ c. new q c) o ts
-  suffixes_same r c1 q c2 ft d f b ts e None h = e
-  suffixes_same r c1 q c2 ft d f b ts e (Some c) h =
+  suffixes_same r c1 full q c2 ft d f b ts e None h = e
+  suffixes_same r c1 full q c2 ft d f b ts e (Some c) h =
       chain_same (old r b ts) (new r b ts) _ _ e
-      (λ l rest e'. loop_same q c2 c (λ t. ft (G.code t)) (λ l. nat_le (d l) c) f (length ts) (λ xs i. h c refl xs i) (length rest) l rest (used r c1 b ts l rest e'))
+      (λ l rest e'. let less = used_some r c1 full b ts l rest e' in loop_same q c2 c (λ t. ft (G.code t)) (λ l. nat_le (d l) c) f (length rest) (λ xs i. h c refl xs (omega (arith, i, less))) (length rest) l rest (le_refl _))
 
-  suffix_same : {s s' : Sort} (r : Rule T N K sorts s) (c1 : Checks G r) (q : Rule T N K sorts s') (c2 : Checks G q) (ft : ℕ → Bool) (d : El T N s → ℕ) (ok : El T N s → Bool) (f : El T N s → El T N s' → El T N s) (b : ℕ) (ts : List T) → old r b ts ≡ new r b ts → (o : Option ℕ)
-      → ((c : ℕ) → o ≡ Some c → (xs : List T) → length xs ≤ length ts → old q c xs ≡ new q c xs)
+  suffix_same : {s s' : Sort} (r : Rule T N K sorts s) (c1 : Checks G r) (full : nullable G r ≡ false) (q : Rule T N K sorts s') (c2 : Checks G q) (ft : ℕ → Bool) (d : El T N s → ℕ) (ok : El T N s → Bool) (f : El T N s → El T N s' → El T N s) (b : ℕ) (ts : List T) → old r b ts ≡ new r b ts → (o : Option ℕ)
+      → ((c : ℕ) → o ≡ Some c → (xs : List T) → length xs < length ts → old q c xs ≡ new q c xs)
       → read_suffix_at (λ t. ft (G.code t)) d ok f (old r b) (λ c. old q c) o ts ≡ read_suffix_at (λ t. ft (G.code t)) d ok f (new r b) (λ c. new q c) o ts
-  suffix_same r c1 q c2 ft d ok f b ts e None h = e
-  suffix_same r c1 q c2 ft d ok f b ts e (Some c) h =
+  suffix_same r c1 full q c2 ft d ok f b ts e None h = e
+  suffix_same r c1 full q c2 ft d ok f b ts e (Some c) h =
       chain_same (old r b ts) (new r b ts) _ _ e
       (λ l rest e'. if_same (next_in (λ t. ft (G.code t)) rest && (ok l && nat_le (d l) c)) _ _ (Ok (l, rest)) (Ok (l, rest))
-      (ap (λ o. and_then o (λ x after. Ok (f l x, after))) (h c refl rest (used r c1 b ts l rest e'))) refl)
+      (ap (λ o. and_then o (λ x after. Ok (f l x, after))) (h c refl rest (used_some r c1 full b ts l rest e'))) refl)
 
   abbrev Same : ℕ → Type 0
   Same L = (c : ℕ) (k : K) (ts : List T) → length ts + c ≤ L → read_within G n c k ts ≡ env' c k ts
@@ -89,12 +89,12 @@ module _ {T N K : Type 0} {sorts : K → Sort} (G : Grammar T N K sorts) (S : Pr
   weak (node f r) c zero ts L le h = refl
   weak (node f r) c (suc b) ts L le h = ap (λ o. and_then o (λ a rest. Ok (f a, rest))) (weak r c.1 b ts L (omega (arith, le)) h)
   weak (many r) c b ts L le h = many_same r c.2 b (λ t. first G r (G.code t)) (length ts) (λ xs l. weak r c.2 b xs L (omega (arith, le, l)) h) (length ts) ts (le_refl _)
-  weak (suffixes {s = s} extra r q f) c b ts L le h =
-      suffixes_same r c.5 q c.6 (first G q) (deep T G.depth s) f b ts (weak r c.5 b ts L le h) (under (suc extra) b)
-      (λ b' is xs i. weak q c.6 b' xs L (omega (arith, le, i, under_some (suc extra) b b' is)) h)
-  weak (suffix {s = s} extra r ok q f) c b ts L le h =
-      suffix_same r c.4 q c.5 (first G q) (deep T G.depth s) ok f b ts (weak r c.4 b ts L le h) (under (suc extra) b)
-      (λ b' is xs i. weak q c.5 b' xs L (omega (arith, le, i, under_some (suc extra) b b' is)) h)
+  weak (suffixes {s = s} levels r q f) c b ts L le h =
+      suffixes_same r c.5 c.2 q c.6 (first G q) (deep T G.depth s) f b ts (weak r c.5 b ts L le h) (under levels b)
+      (λ b' is xs i. weak q c.6 b' xs L (omega (arith, le, i, under_some levels b b' is)) h)
+  weak (suffix {s = s} levels r ok q f) c b ts L le h =
+      suffix_same r c.4 c.1 q c.5 (first G q) (deep T G.depth s) ok f b ts (weak r c.4 b ts L le h) (under levels b)
+      (λ b' is xs i. weak q c.5 b' xs L (omega (arith, le, i, under_some levels b b' is)) h)
   weak (starting g r) c b ts L le h = if_same (next_in (λ t. g (G.code t)) ts) _ _ (Err ts) (Err ts) (weak r c.1 b ts L le h) refl
   weak (bind r null begins goes_on q) c b ts L le h =
       chain_same (old r b ts) (new r b ts) _ _ (weak r c.1 b ts L le h)
@@ -118,12 +118,12 @@ module _ {T N K : Type 0} {sorts : K → Sort} (G : Grammar T N K sorts) (S : Pr
   strict (node f r) c d zero ts L le h = refl
   strict (node f r) c d (suc b) ts L le h = ap (λ o. and_then o (λ a rest. Ok (f a, rest))) (weak r c.1 b ts (length ts + b) (le_refl _) (λ c' k t i. h c' k t (omega (arith, i, le))))
   strict (many r) c d b ts L le h = many_same r c.2 b (λ t. first G r (G.code t)) (length ts) (λ xs l. strict r c.2 d b xs L (omega (arith, le, l)) h) (length ts) ts (le_refl _)
-  strict (suffixes {s = s} extra r q f) c d b ts L le h =
-      suffixes_same r c.5 q c.6 (first G q) (deep T G.depth s) f b ts (strict r c.5 d b ts L le h) (under (suc extra) b)
-      (λ b' is xs i. let lv = under_some (suc extra) b b' is in weak q c.6 b' xs (length ts + b') (omega (arith, i)) (λ c' k t j. h c' k t (omega (arith, j, le, lv))))
-  strict (suffix {s = s} extra r ok q f) c d b ts L le h =
-      suffix_same r c.4 q c.5 (first G q) (deep T G.depth s) ok f b ts (strict r c.4 d b ts L le h) (under (suc extra) b)
-      (λ b' is xs i. let lv = under_some (suc extra) b b' is in weak q c.5 b' xs (length ts + b') (omega (arith, i)) (λ c' k t j. h c' k t (omega (arith, j, le, lv))))
+  strict (suffixes {s = s} levels r q f) c d b ts L le h =
+      suffixes_same r c.5 c.2 q c.6 (first G q) (deep T G.depth s) f b ts (strict r c.5 d b ts L le h) (under levels b)
+      (λ b' is xs i. let lv = under_some levels b b' is in weak q c.6 b' xs (length xs + b') (le_refl _) (λ c' k t j. h c' k t (omega (arith, j, i, le, lv))))
+  strict (suffix {s = s} levels r ok q f) c d b ts L le h =
+      suffix_same r c.4 c.1 q c.5 (first G q) (deep T G.depth s) ok f b ts (strict r c.4 d b ts L le h) (under levels b)
+      (λ b' is xs i. let lv = under_some levels b b' is in weak q c.5 b' xs (length xs + b') (le_refl _) (λ c' k t j. h c' k t (omega (arith, j, i, le, lv))))
   strict (starting g r) c d b ts L le h = if_same (next_in (λ t. g (G.code t)) ts) _ _ (Err ts) (Err ts) (strict r c.1 d b ts L le h) refl
   strict (bind r null begins goes_on q) c d b ts L le h =
       chain_same (old r b ts) (new r b ts) _ _ (strict r c.1 d.0 b ts L le h)

@@ -20,8 +20,8 @@ module _ {T N K : Type 0} {sorts : K → Sort} (G : Grammar T N K sorts) where
   nullable (view f r) = nullable r
   nullable (node f r) = nullable r
   nullable (many r) = true
-  nullable (suffixes extra r q f) = false
-  nullable (suffix extra r ok q f) = false
+  nullable (suffixes levels r q f) = false
+  nullable (suffix levels r ok q f) = false
   nullable (starting g r) = false
   nullable (bind r null begins goes_on q) = nullable r && null
   nullable (needs n r) = nullable r
@@ -37,8 +37,8 @@ module _ {T N K : Type 0} {sorts : K → Sort} (G : Grammar T N K sorts) where
   first (view f r) t = first r t
   first (node f r) t = first r t
   first (many r) t = first r t
-  first (suffixes extra r q f) t = first r t
-  first (suffix extra r ok q f) t = first r t
+  first (suffixes levels r q f) t = first r t
+  first (suffix levels r ok q f) t = first r t
   first (starting g r) t = g t && first r t
   first (bind r null begins goes_on q) t = if nullable r then first r t || begins t else first r t
   first (needs n r) t = first r t
@@ -54,8 +54,8 @@ module _ {T N K : Type 0} {sorts : K → Sort} (G : Grammar T N K sorts) where
   continues (view f r) t = continues r t
   continues (node f r) t = continues r t
   continues (many r) t = continues r t || first r t
-  continues (suffixes extra r q f) t = continues r t || (continues q t || first q t)
-  continues (suffix extra r ok q f) t = continues r t || (continues q t || first q t)
+  continues (suffixes levels r q f) t = continues r t || (continues q t || first q t)
+  continues (suffix levels r ok q f) t = continues r t || (continues q t || first q t)
   continues (starting g r) t = continues r t
   continues (bind r null begins goes_on q) t = goes_on t || (null && continues r t)
   continues (needs n r) t = continues r t
@@ -83,10 +83,10 @@ module _ {T N K : Type 0} {sorts : K → Sort} (G : Grammar T N K sorts) where
   Checks (view {s = s} {r = r'} f r) = ((a : El T N s) → deep T G.depth r' (f a) ≡ deep T G.depth s a) × Checks r
   Checks (node {s = s} {r = r'} f r) = ((a : El T N s) → deep T G.depth r' (f a) ≡ suc (deep T G.depth s a)) × Checks r
   Checks (many r) = Disjoint (continues r) (first r) × (nullable r ≡ false) × Checks r
-  Checks (suffixes {s = s} {r = r'} extra r q f) = Disjoint (continues r) (first q) × Disjoint (continues q) (first q) × (nullable r ≡ false) × (nullable q ≡ false)
-      × ((l : El T N s) (x : El T N r') → deep T G.depth s (f l x) ≡ suc (extra + max (deep T G.depth s l) (deep T G.depth r' x))) × Checks r × Checks q
-  Checks (suffix {s = s} {r = r'} extra r ok q f) = Disjoint (continues r) (first q) × (nullable r ≡ false) × (nullable q ≡ false)
-      × ((l : El T N s) (x : El T N r') → ok l ≡ true → deep T G.depth s (f l x) ≡ suc (extra + max (deep T G.depth s l) (deep T G.depth r' x))) × Checks r × Checks q
+  Checks (suffixes {s = s} {r = r'} levels r q f) = Disjoint (continues r) (first q) × Disjoint (continues q) (first q) × (nullable r ≡ false) × (nullable q ≡ false)
+      × ((l : El T N s) (x : El T N r') → deep T G.depth s (f l x) ≡ levels + max (deep T G.depth s l) (deep T G.depth r' x)) × Checks r × Checks q
+  Checks (suffix {s = s} {r = r'} levels r ok q f) = Disjoint (continues r) (first q) × (nullable r ≡ false) × (nullable q ≡ false)
+      × ((l : El T N s) (x : El T N r') → ok l ≡ true → deep T G.depth s (f l x) ≡ levels + max (deep T G.depth s l) (deep T G.depth r' x)) × Checks r × Checks q
   Checks (starting g r) = (nullable r ≡ false) × Checks r
   Checks (bind {s = s} r null begins goes_on q) = Disjoint (continues r) begins × Checks r
       × ((a : El T N s) → (included (G.size) (first (q a)) begins ≡ true) × (included (G.size) (continues (q a)) goes_on ≡ true) × (nullable (q a) ≡ true → null ≡ true) × Checks (q a))
@@ -103,8 +103,8 @@ module _ {T N K : Type 0} {sorts : K → Sort} (G : Grammar T N K sorts) where
   Guarded (view f r) = Guarded r
   Guarded (node f r) = Unit {0}
   Guarded (many r) = Guarded r
-  Guarded (suffixes extra r q f) = Guarded r
-  Guarded (suffix extra r ok q f) = Guarded r
+  Guarded (suffixes levels r q f) = Guarded r
+  Guarded (suffix levels r ok q f) = Guarded r
   Guarded (starting g r) = Guarded r
   Guarded (bind {s = s} r null begins goes_on q) = Guarded r × (((a : El T N s) → Guarded (q a)) ⊎ (nullable r ≡ false))
   Guarded (needs n r) = Guarded r

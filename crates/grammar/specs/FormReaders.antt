@@ -83,13 +83,13 @@ read_one_suffix first fits f q l ts = if next_in first ts && fits l then and_the
 abbrev pub read_suffix : {T A S : Type 0} → (T → Bool) → (A → Bool) → (A → S → A) → (List T → Result (A × List T) (List T)) → (List T → Result (S × List T) (List T)) → List T → Result (A × List T) (List T)
 read_suffix first fits f p q ts = and_then (p ts) (λ l rest. read_one_suffix first fits f q l rest)
 
--- the levels under so many nodes
+-- the levels that are left under so many
 abbrev pub under : ℕ → ℕ → Option ℕ
 under zero b = Some b
 under (suc n) zero = None
 under (suc n) (suc b) = under n b
 
--- with the levels under the node that a part behind makes, if there are such
+-- with the levels that a part behind leaves, if there are such
 abbrev pub read_suffixes_at : {T A S : Type 0} → (T → Bool) → (A → ℕ) → (A → S → A) → (List T → Result (A × List T) (List T)) → (ℕ → List T → Result (S × List T) (List T)) → Option ℕ → List T → Result (A × List T) (List T)
 read_suffixes_at first d f p q None ts = p ts
 read_suffixes_at first d f p q (Some c) ts = read_suffixes first (λ l. nat_le (d l) c) f p (q c) ts

@@ -52,7 +52,7 @@ deepest d (a ∷ xs) = max (d a) (deepest d xs)
 abbrev pub ManyFront : {T A : Type 0} → (A → List T → Type 0) → (A → ℕ) → ℕ → (List T → Type 0) → List T → Type 0
 ManyFront {T} {A} W d b F u = (xs : List A) × (v : List T) × (w : List T) × (u ≡ v ++ w) × ManySpells W xs v × (deepest d xs ≤ b) × F w
 
--- a rule and then any number of parts behind it, each of which makes a node over all before it
+-- a rule and then any number of parts behind it, each of which makes a value with all before it
 abbrev pub ChainSpells : {T A S : Type 0} → (A → List T → Type 0) → (S → List T → Type 0) → (A → S → A) → ℕ → A → List T → Type 0
 ChainSpells W V f zero x u = W x u
 ChainSpells {T} {A} {S} W V f (suc k) x u = (l : A) × (s : S) × (v : List T) × (w : List T) × (x ≡ f l s) × (u ≡ v ++ w) × ChainSpells W V f k l v × V s w
@@ -64,11 +64,11 @@ SuffixesSpell W V f x u = (k : ℕ) × ChainSpells W V f k x u
 abbrev pub BehindSuffixes : {T A S : Type 0} → (A → List T → Type 0) → (S → List T → Type 0) → (A → S → A) → (A → ℕ) → ℕ → (List T → Type 0) → List T → Type 0
 BehindSuffixes {T} {A} W V f d c G u = (l : A) × (v : List T) × (w : List T) × (u ≡ v ++ w) × SuffixesSpell W V f l v × (d l ≤ c) × G w
 
--- each part behind makes `extra + 1` levels over all before it
+-- each part behind makes `levels` levels over all before it
 abbrev pub SuffixesFront : {T A S : Type 0} → (A → List T → Type 0) → (S → List T → Type 0) → (A → S → A) → (A → ℕ) → ℕ → ℕ → (List T → Type 0) → (ℕ → List T → Type 0) → List T → Type 0
-SuffixesFront W V f d extra b F G u = F u ⊎ ((c : ℕ) × (b ≡ suc (extra + c)) × BehindSuffixes W V f d c (G c) u)
+SuffixesFront W V f d levels b F G u = F u ⊎ ((c : ℕ) × (b ≡ levels + c) × BehindSuffixes W V f d c (G c) u)
 
--- a rule and then at most one part behind it, which makes a node with it, where the value before it may have one
+-- a rule and then at most one part behind it, which makes a value with it, where the value before it may have one
 abbrev pub SuffixSpells : {T A S : Type 0} → (A → List T → Type 0) → (A → Bool) → (S → List T → Type 0) → (A → S → A) → A → List T → Type 0
 SuffixSpells {T} {A} {S} W ok V f x u = W x u ⊎ ((l : A) × (s : S) × (v : List T) × (w : List T) × (x ≡ f l s) × (u ≡ v ++ w) × (ok l ≡ true) × W l v × V s w)
 
@@ -76,7 +76,7 @@ abbrev pub BehindSuffix : {T A : Type 0} → (A → List T → Type 0) → (A �
 BehindSuffix {T} {A} W ok d c G u = (l : A) × (v : List T) × (w : List T) × (u ≡ v ++ w) × (ok l ≡ true) × W l v × (d l ≤ c) × G w
 
 abbrev pub SuffixFront : {T A : Type 0} → (A → List T → Type 0) → (A → Bool) → (A → ℕ) → ℕ → ℕ → (List T → Type 0) → (ℕ → List T → Type 0) → List T → Type 0
-SuffixFront W ok d extra b F G u = F u ⊎ ((c : ℕ) × (b ≡ suc (extra + c)) × BehindSuffix W ok d c (G c) u)
+SuffixFront W ok d levels b F G u = F u ⊎ ((c : ℕ) × (b ≡ levels + c) × BehindSuffix W ok d c (G c) u)
 
 -- a rule that begins with a token of a class
 abbrev pub StartsIn : {T : Type 0} → (T → Bool) → List T → Type 0

@@ -18,8 +18,8 @@ module _ {T N K : Type 0} {sorts : K → Sort} (G : Grammar T N K sorts) where
   read_rule names (view f r) b ts = read_view f (read_rule names r b) ts
   read_rule names (node f r) b ts = read_node f (λ c. read_rule names r c) b ts
   read_rule names (many r) b ts = read_many (λ t. first G r (G.code t)) (read_rule names r b) (length ts) ts
-  read_rule names (suffixes {s = s} extra r q f) b ts = read_suffixes_at (λ t. first G q (G.code t)) (deep T G.depth s) f (read_rule names r b) (λ c. read_rule names q c) (under (suc extra) b) ts
-  read_rule names (suffix {s = s} extra r ok q f) b ts = read_suffix_at (λ t. first G q (G.code t)) (deep T G.depth s) ok f (read_rule names r b) (λ c. read_rule names q c) (under (suc extra) b) ts
+  read_rule names (suffixes {s = s} levels r q f) b ts = read_suffixes_at (λ t. first G q (G.code t)) (deep T G.depth s) f (read_rule names r b) (λ c. read_rule names q c) (under levels b) ts
+  read_rule names (suffix {s = s} levels r ok q f) b ts = read_suffix_at (λ t. first G q (G.code t)) (deep T G.depth s) ok f (read_rule names r b) (λ c. read_rule names q c) (under levels b) ts
   read_rule names (starting g r) b ts = read_starting (λ t. g (G.code t)) (read_rule names r b) ts
   read_rule names (bind r null begins goes_on q) b ts = read_bind (read_rule names r b) (λ a. read_rule names (q a) b) ts
   read_rule names (needs n r) b ts = read_needs n b (read_rule names r b) ts

@@ -43,9 +43,9 @@ pub data Rule (T N K : Type 0) (sorts : K → Sort) : Sort → Type 0 where
   -- a node over the parts
   node : {s r : Sort} → (El T N s → El T N r) → Rule T N K sorts s → Rule T N K sorts r
   many : {s : Sort} → Rule T N K sorts s → Rule T N K sorts (list s)
-  -- a rule and any number of parts behind it, each of which makes a node over all before it, and so many levels more
+  -- a rule and any number of parts behind it, each of which makes a value with all before it, so many levels above them
   suffixes : {s r : Sort} → ℕ → Rule T N K sorts s → Rule T N K sorts r → (El T N s → El T N r → El T N s) → Rule T N K sorts s
-  -- a rule and at most one part behind it, which makes a node with it, and so many levels more, where its value may have one
+  -- a rule and at most one part behind it, which makes a value with it, so many levels above, where its value may have one
   suffix : {s r : Sort} → ℕ → Rule T N K sorts s → (El T N s → Bool) → Rule T N K sorts r → (El T N s → El T N r → El T N s) → Rule T N K sorts s
   -- a rule that begins with a token of a class
   starting : {s : Sort} → (ℕ → Bool) → Rule T N K sorts s → Rule T N K sorts s

@@ -20,8 +20,8 @@ module _ {T N K : Type 0} {sorts : K → Sort} (G : Grammar T N K sorts) where
   RuleSpells names (view f r) = ViewSpells f (RuleSpells names r)
   RuleSpells names (node f r) = ViewSpells f (RuleSpells names r)
   RuleSpells names (many r) = ManySpells (RuleSpells names r)
-  RuleSpells names (suffixes extra r q f) = SuffixesSpell (RuleSpells names r) (RuleSpells names q) f
-  RuleSpells names (suffix extra r ok q f) = SuffixSpells (RuleSpells names r) ok (RuleSpells names q) f
+  RuleSpells names (suffixes levels r q f) = SuffixesSpell (RuleSpells names r) (RuleSpells names q) f
+  RuleSpells names (suffix levels r ok q f) = SuffixSpells (RuleSpells names r) ok (RuleSpells names q) f
   RuleSpells names (starting g r) = StartingSpells (λ t. g (G.code t)) (RuleSpells names r)
   RuleSpells names (bind r null begins goes_on q) = BindSpells (RuleSpells names r) (λ a. RuleSpells names (q a))
   RuleSpells names (needs n r) = RuleSpells names r
@@ -46,8 +46,8 @@ module _ {T N K : Type 0} {sorts : K → Sort} (G : Grammar T N K sorts) where
   RuleFront names fronts (view f r) b = RuleFront names fronts r b
   RuleFront names fronts (node f r) b = NodeFront (λ c. RuleFront names fronts r c) b
   RuleFront names fronts (many {s = s} r) b = ManyFront (RuleSpells names r) (deep T G.depth s) b (RuleFront names fronts r b)
-  RuleFront names fronts (suffixes {s = s} extra r q f) b = SuffixesFront (RuleSpells names r) (RuleSpells names q) f (deep T G.depth s) extra b (RuleFront names fronts r b) (λ c. RuleFront names fronts q c)
-  RuleFront names fronts (suffix {s = s} extra r ok q f) b = SuffixFront (RuleSpells names r) ok (deep T G.depth s) extra b (RuleFront names fronts r b) (λ c. RuleFront names fronts q c)
+  RuleFront names fronts (suffixes {s = s} levels r q f) b = SuffixesFront (RuleSpells names r) (RuleSpells names q) f (deep T G.depth s) levels b (RuleFront names fronts r b) (λ c. RuleFront names fronts q c)
+  RuleFront names fronts (suffix {s = s} levels r ok q f) b = SuffixFront (RuleSpells names r) ok (deep T G.depth s) levels b (RuleFront names fronts r b) (λ c. RuleFront names fronts q c)
   RuleFront names fronts (starting g r) b = StartingFront (λ t. g (G.code t)) (RuleFront names fronts r b)
   RuleFront names fronts (bind {s = s} r null begins goes_on q) b = BindFront (RuleSpells names r) (deep T G.depth s) b (RuleFront names fronts r b) (λ a. RuleFront names fronts (q a) b)
   RuleFront names fronts (needs n r) b = NeedsFront n b (RuleFront names fronts r b)

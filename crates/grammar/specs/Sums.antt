@@ -46,7 +46,7 @@ abbrev pub prim : R tree
 prim = choice (node {s = leaf} (λ t. num (value t)) (token (class 0))) parenthesized
 
 abbrev pub production : (k : Name) → R (sort k)
-production expr = suffixes {r = pair leaf tree} 0 prim (sequence (token (class 1)) prim) (λ l x. sum l x.1)
+production expr = suffixes {r = pair leaf tree} 1 prim (sequence (token (class 1)) prim) (λ l x. sum l x.1)
 
 abbrev pub begins : ℕ → Bool
 begins n = class 0 n || class 2 n
