@@ -144,7 +144,7 @@ module _ {T N K : Type 0} {sorts : K → Sort} (G : Grammar T N K sorts) (S : Pr
       front_strict G (Derives G n) (Derives G m) (DerivesFront G n) (DerivesFront G m) (derives_nullable G S n) (G.production k) (S.checks k) (S.guarded k) b u (length u + b) (le_refl _)
       (λ j a v l y. height G S m n j a v (omega (arith, l, le)) y) (λ j c v l y. front_height m n j c v (omega (arith, l, le)) y) x
 
-  pub read_named_reads : (b : ℕ) (k : K) → Reads (Spells G k) (IsFront G k b) (deep T G.depth (sorts k)) b (λ t. G.name_first k (G.code t)) (λ t. G.name_continues k (G.code t)) (G.name_nullable k) (read_named G b k)
+  pub read_named_reads : (b : ℕ) (k : K) → Reads (Spells G k) (IsFront G k b) (deep T G.depth (sorts k)) b (λ t. G.name_first k (G.code t)) (λ a t. G.name_goes_on k a (G.code t) ≡ true) (G.name_nullable k) (read_named G b k)
   unfolding read_named
   read_named_reads b k = record {
     sound = λ ts a rest h. let n = suc (length ts + b) in let s = (read_within_reads G S n b k).sound ts a rest h in (s.0, s.1, (n, s.2), s.3);

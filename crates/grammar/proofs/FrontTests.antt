@@ -1,5 +1,5 @@
 -- Whether a list is a front is what the reader tells: nothing is left exactly where it is one.
-use Rattle.std.proofs.Common.{◌≡◌, ℕ, List, [], ◌∷◌, Result, Ok, Err, refl, sym, ap, ◌∙◌, subst, append-nil, arith}
+use Rattle.std.proofs.Common.{◌≡◌, ℕ, true, List, [], ◌∷◌, Result, Ok, Err, refl, sym, ap, ◌∙◌, subst, append-nil, arith}
 use Rattle.grammar.specs.FormReaders.{remaining, Reads}
 use Rattle.grammar.specs.Rules.{Sort, El, deep, Grammar}
 use Rattle.grammar.specs.Spelling.{Spells, IsFront}
@@ -8,7 +8,7 @@ use Rattle.grammar.specs.Readers.{read_named}
 use Rattle.grammar.proofs.FrontHeights.{read_named_reads}
 
 module _ {T N K : Type 0} {sorts : K → Sort} (G : Grammar T N K sorts) (S : Predictive G) (k : K) (b : ℕ) (ts : List T) where
-  abbrev R : Reads (Spells G k) (IsFront G k b) (deep T G.depth (sorts k)) b (λ t. G.name_first k (G.code t)) (λ t. G.name_continues k (G.code t)) (G.name_nullable k) (read_named G b k)
+  abbrev R : Reads (Spells G k) (IsFront G k b) (deep T G.depth (sorts k)) b (λ t. G.name_first k (G.code t)) (λ a t. G.name_goes_on k a (G.code t) ≡ true) (G.name_nullable k) (read_named G b k)
   R = read_named_reads G S b k
 
   pub is_front : remaining (read_named G b k ts) ≡ 0 → IsFront G k b ts

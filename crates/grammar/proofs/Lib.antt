@@ -1,4 +1,5 @@
 pub mod Lists
+pub mod Classes
 pub mod ReadsSequence
 pub mod ReadsBasic
 pub mod ReadsMany

@@ -1,7 +1,7 @@
 -- Lists and answers.
 use Rattle.std.proofs.Common.{◌≡◌, ℕ, ◌≤◌, Bool, true, false, ◌&&◌, ◌||◌, List, [], ◌∷◌, ◌++◌, Option, Some, None, Result, Ok, Err, ◌⊎◌, inl, inr, refl, sym, ap, ◌∙◌, subst, le_refl, true≢false}
 use Rattle.std.specs.Prelude.{⊤, if◌then◌else◌}
-use Rattle.grammar.specs.FormReaders.{and_then}
+use Rattle.grammar.specs.FormReaders.{NextNot, and_then}
 
 abbrev IsOkT : {A E : Type 0} → Result A E → Type 0
 IsOkT (Ok a) = ⊤
@@ -123,3 +123,7 @@ none_some h = absurd (subst IsSomeT (sym h) tt)
 
 pub le_of_eq : {m n : ℕ} → m ≡ n → m ≤ n
 le_of_eq {m} h = subst (λ k. m ≤ k) h (le_refl m)
+
+pub off_less : {T : Type 0} {c c' : T → Type 0} → ((t : T) → c t → c' t) → (rest : List T) → NextNot c' rest → NextNot c rest
+off_less h [] off = tt
+off_less h (t ∷ r) off = λ k. off (h t k)

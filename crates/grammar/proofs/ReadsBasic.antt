@@ -1,9 +1,9 @@
 -- A token, no token, a choice, a map, a node.
-use Rattle.std.proofs.Common.{◌≡◌, ℕ, ◌≤◌, Bool, true, false, ◌&&◌, ◌||◌, List, [], ◌∷◌, ◌++◌, length, Option, Some, None, Result, Ok, Err, inl, inr, refl, sym, ap, ◌∙◌, subst, arith, le_refl, le_trans, true≢false, is_some}
+use Rattle.std.proofs.Common.{◌≡◌, ℕ, ◌≤◌, Bool, true, false, ◌||◌, List, [], ◌∷◌, ◌++◌, length, Option, Some, None, Result, Ok, Err, ◌⊎◌, inl, inr, refl, sym, ap, ◌∙◌, subst, arith, le_refl, le_trans, true≢false, is_some}
 use Rattle.std.specs.Prelude.{if◌then◌else◌}
 use Rattle.grammar.specs.Forms.{TokenSpells, TokenFront, AbsentSpells, AbsentFront, ChoiceSpells, ChoiceFront, ViewSpells}
-use Rattle.grammar.specs.FormReaders.{NextNotIn, Apart, remaining, Reads, and_then, read_one_token, read_token, read_absent, read_choice, read_view}
-use Rattle.grammar.proofs.Lists.{ok_err, err_ok, ok_inj, err_inj, cons_nil, nil_cons, heads, tails, bind_ok, bind_err, append_empty, or_left, or_right, and_both, cases_if, if_true, if_false, le_of_eq}
+use Rattle.grammar.specs.FormReaders.{NextNot, Apart, remaining, Reads, and_then, read_one_token, read_token, read_absent, read_choice, read_view}
+use Rattle.grammar.proofs.Lists.{ok_err, err_ok, ok_inj, err_inj, cons_nil, nil_cons, heads, tails, bind_ok, bind_err, append_empty, or_left, or_right, cases_if, if_true, if_false, le_of_eq, off_less}
 
 module _ {T A : Type 0} (f : T → Option A) (d : A → ℕ) (b : ℕ) (flat : (a : A) → d a ≤ 0) where
   abbrev pub tok_first : T → Bool
@@ -54,7 +54,7 @@ module _ {T A : Type 0} (f : T → Option A) (d : A → ℕ) (b : ℕ) (flat : (
   tok_starts t u (inl e) = cons_nil e
   tok_starts t u (inr (s, a, e, h)) = ap (λ x. is_some (f x)) (heads e) ∙ ap is_some h
 
-  pub token_reads : Reads (TokenSpells f) (TokenFront f) d b tok_first (λ t. false) false (read_token f)
+  pub token_reads : Reads (TokenSpells f) (TokenFront f) d b tok_first (λ a t. ⊥) false (read_token f)
   token_reads = record {
     sound = tok_sound;
     refusal = tok_fault;
@@ -89,7 +89,7 @@ module _ {T A : Type 0} (a0 : A) (d : A → ℕ) (b : ℕ) (fits : Bool) (fits_i
       by true = le_refl _
       by false = le_refl _
 
-  pub absent_reads : Reads {T = T} (AbsentSpells a0) AbsentFront d b (λ t. false) (λ t. false) true (read_absent fits a0)
+  pub absent_reads : Reads {T = T} (AbsentSpells a0) AbsentFront d b (λ t. false) (λ a t. ⊥) true (read_absent fits a0)
   absent_reads = record {
     sound = eps_sound;
     refusal = eps_fault;
@@ -103,13 +103,13 @@ module _ {T A : Type 0} (a0 : A) (d : A → ℕ) (b : ℕ) (fits : Bool) (fits_i
   }
 
 module _ {T A : Type 0} {W : A → List T → Type 0} {F : List T → Type 0} {d : A → ℕ} {V : A → List T → Type 0} {G : List T → Type 0} {b : ℕ}
-    {first1 cont1 first2 cont2 : T → Bool} {null2 : Bool} {p q : List T → Result (A × List T) (List T)}
+    {first1 first2 : T → Bool} {cont1 cont2 : A → T → Type 0} {null2 : Bool} {p q : List T → Result (A × List T) (List T)}
     (R : Reads W F d b first1 cont1 false p) (S : Reads V G d b first2 cont2 null2 q) (apart : Apart first1 first2) where
   abbrev pub alt_first : T → Bool
   alt_first t = first1 t || first2 t
 
-  abbrev pub alt_cont : T → Bool
-  alt_cont t = cont1 t || (cont2 t || (null2 && first1 t))
+  abbrev pub alt_cont : A → T → Type 0
+  alt_cont a t = cont1 a t ⊎ (cont2 a t ⊎ ((null2 ≡ true) × (first1 t ≡ true)))
 
   alt_sound : (ts : List T) (a : A) (rest : List T) → read_choice first1 p q ts ≡ Ok (a, rest) → (u : List T) × (ts ≡ u ++ rest) × ChoiceSpells W V a u × (d a ≤ b)
   alt_sound [] a rest h = let s = S.sound [] a rest h in (s.0, s.1, inr s.2, s.3)
@@ -125,27 +125,19 @@ module _ {T A : Type 0} {W : A → List T → Type 0} {F : List T → Type 0} {d
     | inr k ↦ let s = S.refusal (t ∷ r) rest k.1 in (s.0, s.1, inr s.2)
   ]
 
-  off_l : (rest : List T) → NextNotIn alt_cont rest → NextNotIn cont1 rest
-  off_l [] off = tt
-  off_l (t ∷ r) off = λ k. off (or_left (cont1 t) _ k)
-
-  off_r : (rest : List T) → NextNotIn alt_cont rest → NextNotIn cont2 rest
-  off_r [] off = tt
-  off_r (t ∷ r) off = λ k. off (or_right (cont1 t) _ (or_left (cont2 t) _ k))
-
   take_l : (t : T) (u : List T) → first1 t ≡ true → read_choice first1 p q (t ∷ u) ≡ p (t ∷ u)
   take_l t u h = if_true (first1 t) (p (t ∷ u)) (q (t ∷ u)) h
 
   take_r : (t : T) (u : List T) → (first1 t ≡ true → ⊥) → read_choice first1 p q (t ∷ u) ≡ q (t ∷ u)
   take_r t u h = if_false (first1 t) (p (t ∷ u)) (q (t ∷ u)) h
 
-  alt_complete : (a : A) (u rest : List T) → ChoiceSpells W V a u → d a ≤ b → NextNotIn alt_cont rest → read_choice first1 p q (u ++ rest) ≡ Ok (a, rest)
+  alt_complete : (a : A) (u rest : List T) → ChoiceSpells W V a u → d a ≤ b → NextNot (alt_cont a) rest → read_choice first1 p q (u ++ rest) ≡ Ok (a, rest)
   alt_complete a [] rest (inl h) le off = absurd (true≢false (sym (R.empty a h)))
-  alt_complete a (t ∷ u) rest (inl h) le off = take_l t (u ++ rest) (R.starts t u (R.holds a (t ∷ u) h le)) ∙ R.complete a (t ∷ u) rest h le (off_l rest off)
+  alt_complete a (t ∷ u) rest (inl h) le off = take_l t (u ++ rest) (R.starts t u (R.holds a (t ∷ u) h le)) ∙ R.complete a (t ∷ u) rest h le (off_less (λ t k. inl k) rest off)
   alt_complete a [] [] (inr h) le off = S.complete a [] [] h le tt
   alt_complete a [] (t ∷ r) (inr h) le off =
-      take_r t r (λ k. off (or_right (cont1 t) _ (or_right (cont2 t) _ (and_both null2 _ (S.empty a h) k)))) ∙ S.complete a [] (t ∷ r) h le (off_r (t ∷ r) off)
-  alt_complete a (t ∷ u) rest (inr h) le off = take_r t (u ++ rest) (λ k. apart t k (S.starts t u (S.holds a (t ∷ u) h le))) ∙ S.complete a (t ∷ u) rest h le (off_r rest off)
+      take_r t r (λ k. off (inr (inr (S.empty a h, k)))) ∙ S.complete a [] (t ∷ r) h le (λ k. off (inr (inl k)))
+  alt_complete a (t ∷ u) rest (inr h) le off = take_r t (u ++ rest) (λ k. apart t k (S.starts t u (S.holds a (t ∷ u) h le))) ∙ S.complete a (t ∷ u) rest h le (off_less (λ t k. inr (inl k)) rest off)
 
   alt_short : (v : List T) → remaining (read_choice first1 p q v) ≤ length v
   alt_short [] = S.reach [] [] S.nothing
@@ -181,8 +173,8 @@ module _ {T A : Type 0} {W : A → List T → Type 0} {F : List T → Type 0} {d
 
 -- a map, whose value may be some levels deeper than the parts
 module _ {T A B : Type 0} (f : A → B) {W : A → List T → Type 0} {F : List T → Type 0} {d : A → ℕ} (e : B → ℕ) {b : ℕ} (c : ℕ)
-    {first continues : T → Bool} {nullable : Bool} {p : List T → Result (A × List T) (List T)}
-    (R : Reads W F d b first continues nullable p) (down : (a : A) → d a ≤ b → e (f a) ≤ c) (up : (a : A) → e (f a) ≤ c → d a ≤ b) where
+    {first : T → Bool} {goes_on : A → T → Type 0} {null : Bool} {p : List T → Result (A × List T) (List T)}
+    (R : Reads W F d b first goes_on null p) (down : (a : A) → d a ≤ b → e (f a) ≤ c) (up : (a : A) → e (f a) ≤ c → d a ≤ b) where
   map_sound : (ts : List T) (x : B) (rest : List T) → read_view f p ts ≡ Ok (x, rest) → (u : List T) × (ts ≡ u ++ rest) × ViewSpells f W x u × (e x ≤ c)
   map_sound ts x rest h =
       let one = bind_ok (p ts) (λ a r. Ok (f a, r)) (x, rest) h in
@@ -198,11 +190,14 @@ module _ {T A B : Type 0} (f : A → B) {W : A → List T → Type 0} {F : List 
   map_same (Ok y) = refl
   map_same (Err y) = refl
 
-  map_complete : (x : B) (u rest : List T) → ViewSpells f W x u → e x ≤ c → NextNotIn continues rest → read_view f p (u ++ rest) ≡ Ok (x, rest)
-  map_complete x u rest (a, e0, h) le off =
-      ap (λ r. and_then r (λ a r. Ok (f a, r))) (R.complete a u rest h (up a (subst (λ z. e z ≤ c) e0 le)) off) ∙ ap (λ z. Ok (z, rest)) (sym e0)
+  abbrev pub map_cont : B → T → Type 0
+  map_cont x t = (a : A) × (x ≡ f a) × goes_on a t
 
-  pub view_reads : Reads (ViewSpells f W) F e c first continues nullable (read_view f p)
+  map_complete : (x : B) (u rest : List T) → ViewSpells f W x u → e x ≤ c → NextNot (map_cont x) rest → read_view f p (u ++ rest) ≡ Ok (x, rest)
+  map_complete x u rest (a, e0, h) le off =
+      ap (λ r. and_then r (λ a r. Ok (f a, r))) (R.complete a u rest h (up a (subst (λ z. e z ≤ c) e0 le)) (off_less (λ t k. (a, e0, k)) rest off)) ∙ ap (λ z. Ok (z, rest)) (sym e0)
+
+  pub view_reads : Reads (ViewSpells f W) F e c first map_cont null (read_view f p)
   view_reads = record {
     sound = map_sound;
     refusal = map_fault;
@@ -216,8 +211,8 @@ module _ {T A B : Type 0} (f : A → B) {W : A → List T → Type 0} {F : List 
   }
 
 -- a node where no level is left
-module _ {T B : Type 0} {W : B → List T → Type 0} (e : B → ℕ) {first continues : T → Bool} {nullable : Bool} (deep : (x : B) (u : List T) → W x u → e x ≤ 0 → ⊥) (empty' : (x : B) → W x [] → nullable ≡ true) where
-  pub no_node_reads : Reads W (λ u. u ≡ []) e 0 first continues nullable (λ ts. Err ts)
+module _ {T B : Type 0} {W : B → List T → Type 0} (e : B → ℕ) {first : T → Bool} {goes_on : B → T → Type 0} {null : Bool} (deep : (x : B) (u : List T) → W x u → e x ≤ 0 → ⊥) (empty' : (x : B) → W x [] → null ≡ true) where
+  pub no_node_reads : Reads W (λ u. u ≡ []) e 0 first goes_on null (λ ts. Err ts)
   no_node_reads = record {
     sound = λ ts x rest h. err_ok h;
     refusal = λ ts rest h. ([], err_inj h, refl);

@@ -1,12 +1,12 @@
 -- One rule after another, which hangs on what the first spells.
 use Rattle.std.proofs.Common.{◌≡◌, ℕ, ◌≤◌, max, Bool, true, ◌&&◌, ◌||◌, List, [], ◌∷◌, ◌++◌, length, Result, Ok, Err, inl, inr, refl, sym, ap, ◌∙◌, subst, append_assoc, append-nil, arith, le_refl, le_trans}
 use Rattle.grammar.specs.Forms.{BindSpells, BindFront}
-use Rattle.grammar.specs.FormReaders.{NextNotIn, Apart, remaining, Reads, and_then, read_bind}
+use Rattle.grammar.specs.FormReaders.{NextNotIn, By, Apart, remaining, Reads, and_then, read_bind}
 use Rattle.grammar.proofs.Lists.{ok_err, ok_inj, heads, bind_ok, bind_err, cut, append_empty, or_left, or_right, and_both}
 
 module _ {T A B : Type 0} {W : A → List T → Type 0} {F : List T → Type 0} {d : A → ℕ} {V : A → B → List T → Type 0} {G : A → List T → Type 0} {e : B → ℕ} {b : ℕ}
     {first1 cont1 first2 cont2 : T → Bool} {null1 null2 : Bool} {p : List T → Result (A × List T) (List T)} {q : A → List T → Result (B × List T) (List T)}
-    (R : Reads W F d b first1 cont1 null1 p) (S : (a : A) → Reads (V a) (G a) e b first2 cont2 null2 (q a)) (apart : Apart cont1 first2) where
+    (R : Reads W F d b first1 (By cont1) null1 p) (S : (a : A) → Reads (V a) (G a) e b first2 (By cont2) null2 (q a)) (apart : Apart cont1 first2) where
   abbrev bind_first : T → Bool
   bind_first t = first1 t || (null1 && first2 t)
 
@@ -103,7 +103,7 @@ module _ {T A B : Type 0} {W : A → List T → Type 0} {F : List T → Type 0} 
       let none = append_empty v w e1 in
       and_both null1 null2 (R.empty x.0 (subst (W x.0) none.0 h)) ((S x.0).empty x.1 (subst (V x.0 x.1) none.1 k))
 
-  pub bind_reads : Reads (BindSpells W V) (BindFront W d b F G) (λ x. max (d x.0) (e x.1)) b bind_first bind_cont (null1 && null2) (read_bind p q)
+  pub bind_reads : Reads (BindSpells W V) (BindFront W d b F G) (λ x. max (d x.0) (e x.1)) b bind_first (By bind_cont) (null1 && null2) (read_bind p q)
   bind_reads = record {
     sound = bind_sound;
     refusal = bind_fault;

@@ -2,11 +2,11 @@
 use Rattle.std.proofs.Common.{◌≡◌, ℕ, zero, suc, ◌≤◌, Bool, true, false, ◌||◌, List, [], ◌∷◌, ◌++◌, length, Result, Ok, Err, inl, inr, refl, sym, ap, ◌∙◌, subst, append_assoc, append-nil, length-append, arith, le_refl, le_trans, true≢false}
 use Rattle.std.specs.Prelude.{if◌then◌else◌}
 use Rattle.grammar.specs.Forms.{ManySpells, deepest, ManyFront}
-use Rattle.grammar.specs.FormReaders.{NextNotIn, Apart, remaining, Reads, and_then, read_many}
+use Rattle.grammar.specs.FormReaders.{NextNotIn, By, Apart, remaining, Reads, and_then, read_many}
 use Rattle.grammar.proofs.Lists.{ok_err, ok_inj, cons_nil, heads, bind_ok, bind_err, cut, or_left, or_right, cases_if, if_true, if_false, le_of_eq}
 
 module _ {T A : Type 0} {W : A → List T → Type 0} {F : List T → Type 0} {d : A → ℕ} {b : ℕ} {first continues : T → Bool} {p : List T → Result (A × List T) (List T)}
-    (R : Reads W F d b first continues false p) (apart : Apart continues first) where
+    (R : Reads W F d b first (By continues) false p) (apart : Apart continues first) where
   abbrev pub many_cont : T → Bool
   many_cont t = continues t || first t
 
@@ -167,7 +167,7 @@ module _ {T A : Type 0} {W : A → List T → Type 0} {F : List T → Type 0} {d
   front_starts t u (xs, [], w, e, m, le, g) = R.starts t u (subst F (sym e) g)
   front_starts t u (xs, s ∷ v, w, e, m, le, g) = subst (λ z. first z ≡ true) (sym (heads e)) (many_starts xs s v m le)
 
-  pub many_reads : Reads (ManySpells W) (ManyFront W d b F) (deepest d) b first many_cont true (λ ts. read_many first p (length ts) ts)
+  pub many_reads : Reads (ManySpells W) (ManyFront W d b F) (deepest d) b first (By many_cont) true (λ ts. read_many first p (length ts) ts)
   many_reads = record {
     sound = λ ts xs rest h. many_sound (length ts) ts xs rest h;
     refusal = λ ts rest h. many_fault (length ts) ts rest h;

@@ -2,11 +2,11 @@
 use Rattle.std.proofs.Common.{◌≡◌, ℕ, ◌≤◌, Bool, true, false, List, [], ◌∷◌, ◌++◌, length, Result, Ok, Err, inl, inr, refl, sym, ap, ◌∙◌, arith, le_refl, le_trans}
 use Rattle.std.specs.Prelude.{nat_le, if◌then◌else◌}
 use Rattle.grammar.specs.Forms.{NeedsFront}
-use Rattle.grammar.specs.FormReaders.{NextNotIn, remaining, Reads, read_needs}
+use Rattle.grammar.specs.FormReaders.{NextNot, remaining, Reads, read_needs}
 use Rattle.grammar.proofs.Lists.{err_ok, err_inj, cons_nil, append_empty, cases_if, if_true, le_of_eq}
 
-module _ {T A : Type 0} (n : ℕ) {W : A → List T → Type 0} {F : List T → Type 0} {d : A → ℕ} {b : ℕ} {first continues : T → Bool} {null : Bool} {p : List T → Result (A × List T) (List T)}
-    (R : Reads W F d b first continues null p) (deep : (a : A) (u : List T) → W a u → n ≤ d a) where
+module _ {T A : Type 0} (n : ℕ) {W : A → List T → Type 0} {F : List T → Type 0} {d : A → ℕ} {b : ℕ} {first : T → Bool} {goes_on : A → T → Type 0} {null : Bool} {p : List T → Result (A × List T) (List T)}
+    (R : Reads W F d b first goes_on null p) (deep : (a : A) (u : List T) → W a u → n ≤ d a) where
   abbrev read : List T → Result (A × List T) (List T)
   read = read_needs n b p
 
@@ -25,7 +25,7 @@ module _ {T A : Type 0} (n : ℕ) {W : A → List T → Type 0} {F : List T → 
     | inr k ↦ ([], err_inj k.1, inl refl)
   ]
 
-  needs_complete : (a : A) (u rest : List T) → W a u → d a ≤ b → NextNotIn continues rest → read (u ++ rest) ≡ Ok (a, rest)
+  needs_complete : (a : A) (u rest : List T) → W a u → d a ≤ b → NextNot (goes_on a) rest → read (u ++ rest) ≡ Ok (a, rest)
   needs_complete a u rest h le off = if_true (nat_le n b) (p (u ++ rest)) (Err (u ++ rest)) (enough (le_trans (deep a u h) le)) ∙ R.complete a u rest h le off
 
   needs_short : (v : List T) → remaining (read v) ≤ length v
@@ -47,7 +47,7 @@ module _ {T A : Type 0} (n : ℕ) {W : A → List T → Type 0} {F : List T → 
   needs_closed u v (inl e) = inl ((append_empty u v (sym e)).0)
   needs_closed u v (inr h) = inr (h.0, R.closed u v h.1)
 
-  pub needs_reads : Reads W (NeedsFront n b F) d b first continues null read
+  pub needs_reads : Reads W (NeedsFront n b F) d b first goes_on null read
   needs_reads = record {
     sound = needs_sound;
     refusal = needs_refusal;

@@ -1,27 +1,23 @@
 -- One rule after another.
-use Rattle.std.proofs.Common.{◌≡◌, ℕ, ◌≤◌, max, Bool, true, ◌&&◌, ◌||◌, List, [], ◌∷◌, ◌++◌, length, Result, Ok, Err, inl, inr, refl, sym, ap, ◌∙◌, subst, append_assoc, append-nil, arith, le_refl, le_trans}
+use Rattle.std.proofs.Common.{◌≡◌, ℕ, ◌≤◌, max, Bool, true, ◌&&◌, ◌||◌, List, [], ◌∷◌, ◌++◌, length, Result, Ok, Err, ◌⊎◌, inl, inr, refl, sym, ap, ◌∙◌, subst, append_assoc, append-nil, arith, le_refl, le_trans}
 use Rattle.grammar.specs.Forms.{SequenceSpells, SequenceFront}
-use Rattle.grammar.specs.FormReaders.{NextNotIn, Apart, remaining, Reads, and_then, read_sequence}
-use Rattle.grammar.proofs.Lists.{ok_err, ok_inj, heads, bind_ok, bind_err, cut, append_empty, or_left, or_right, and_both}
+use Rattle.grammar.specs.FormReaders.{NextNot, remaining, Reads, and_then, read_sequence}
+use Rattle.grammar.proofs.Lists.{ok_err, ok_inj, heads, bind_ok, bind_err, cut, append_empty, or_left, or_right, and_both, off_less}
 
 module _ {T A B : Type 0} {W : A → List T → Type 0} {F : List T → Type 0} {d : A → ℕ} {V : B → List T → Type 0} {G : List T → Type 0} {e : B → ℕ} {b : ℕ}
-    {first1 cont1 first2 cont2 : T → Bool} {null1 null2 : Bool} {p : List T → Result (A × List T) (List T)} {q : List T → Result (B × List T) (List T)}
-    (R : Reads W F d b first1 cont1 null1 p) (S : Reads V G e b first2 cont2 null2 q) (apart : Apart cont1 first2) where
+    {first1 first2 : T → Bool} {cont1 : A → T → Type 0} {cont2 : B → T → Type 0} {null1 null2 : Bool} {p : List T → Result (A × List T) (List T)} {q : List T → Result (B × List T) (List T)}
+    (R : Reads W F d b first1 cont1 null1 p) (S : Reads V G e b first2 cont2 null2 q) (apart : (a : A) (t : T) → cont1 a t → first2 t ≡ true → ⊥) where
   abbrev seq_first : T → Bool
   seq_first t = first1 t || (null1 && first2 t)
 
-  abbrev seq_cont : T → Bool
-  seq_cont t = cont2 t || (null2 && cont1 t)
+  abbrev pub seq_cont : A × B → T → Type 0
+  seq_cont x t = cont2 x.1 t ⊎ ((null2 ≡ true) × cont1 x.0 t)
 
   -- what stands behind the first part does not go on with it
-  off1 : (c : B) (w rest : List T) → V c w → e c ≤ b → NextNotIn seq_cont rest → NextNotIn cont1 (w ++ rest)
-  off1 c [] [] h le off = tt
-  off1 c [] (t ∷ r) h le off = λ k. off (or_right (cont2 t) _ (and_both null2 _ (S.empty c h) k))
-  off1 c (t ∷ w) rest h le off = λ k. apart t k (S.starts t w (S.holds c (t ∷ w) h le))
-
-  off2 : (rest : List T) → NextNotIn seq_cont rest → NextNotIn cont2 rest
-  off2 [] off = tt
-  off2 (t ∷ r) off = λ k. off (or_left (cont2 t) _ k)
+  off1 : (x : A × B) (w rest : List T) → V x.1 w → e x.1 ≤ b → NextNot (seq_cont x) rest → NextNot (cont1 x.0) (w ++ rest)
+  off1 x [] [] h le off = tt
+  off1 x [] (t ∷ r) h le off = λ k. off (inr (S.empty x.1 h, k))
+  off1 x (t ∷ w) rest h le off = λ k. apart x.0 t k (S.starts t w (S.holds x.1 (t ∷ w) h le))
 
   seq_sound : (ts : List T) (x : A × B) (rest : List T) → read_sequence p q ts ≡ Ok (x, rest) → (u : List T) × (ts ≡ u ++ rest) × SequenceSpells W V x u × (max (d x.0) (e x.1) ≤ b)
   seq_sound ts x rest h =
@@ -48,15 +44,15 @@ module _ {T A B : Type 0} {W : A → List T → Type 0} {F : List T → Type 0} 
         ]
   ]
 
-  seq_complete : (x : A × B) (u rest : List T) → SequenceSpells W V x u → max (d x.0) (e x.1) ≤ b → NextNotIn seq_cont rest → read_sequence p q (u ++ rest) ≡ Ok (x, rest)
+  seq_complete : (x : A × B) (u rest : List T) → SequenceSpells W V x u → max (d x.0) (e x.1) ≤ b → NextNot (seq_cont x) rest → read_sequence p q (u ++ rest) ≡ Ok (x, rest)
   seq_complete x u rest h le off =
       let v = h.0 in
       let w = h.1 in
       let le1 : d x.0 ≤ b = omega (arith, le) in
       let le2 : e x.1 ≤ b = omega (arith, le) in
       let again : u ++ rest ≡ v ++ (w ++ rest) = ap (λ l. l ++ rest) h.2 ∙ append_assoc v w rest in
-      let e1 : p (u ++ rest) ≡ Ok (x.0, w ++ rest) = ap p again ∙ R.complete x.0 v (w ++ rest) h.3 le1 (off1 x.1 w rest h.4 le2 off) in
-      let e2 : q (w ++ rest) ≡ Ok (x.1, rest) = S.complete x.1 w rest h.4 le2 (off2 rest off) in
+      let e1 : p (u ++ rest) ≡ Ok (x.0, w ++ rest) = ap p again ∙ R.complete x.0 v (w ++ rest) h.3 le1 (off1 x w rest h.4 le2 off) in
+      let e2 : q (w ++ rest) ≡ Ok (x.1, rest) = S.complete x.1 w rest h.4 le2 (off_less (λ t k. inl k) rest off) in
       ap (λ r. and_then r (λ a r. and_then (q r) (λ c r'. Ok ((a, c), r')))) e1 ∙ ap (λ r. and_then r (λ c r'. Ok ((x.0, c), r'))) e2
 
   -- the second reader moves on only
@@ -81,7 +77,7 @@ module _ {T A B : Type 0} {W : A → List T → Type 0} {F : List T → Type 0} 
       le_trans (after1 (p (u ++ v))) (R.reach u v whole)
   seq_reach u v (inr (a, x, t ∷ y, e1, h, le, g)) =
       let again : u ++ v ≡ x ++ ((t ∷ y) ++ v) = ap (λ l. l ++ v) e1 ∙ append_assoc x (t ∷ y) v in
-      let off : NextNotIn cont1 ((t ∷ y) ++ v) = λ k. apart t k (S.starts t y g) in
+      let off : NextNot (cont1 a) ((t ∷ y) ++ v) = λ k. apart a t k (S.starts t y g) in
       let e2 : p (u ++ v) ≡ Ok (a, (t ∷ y) ++ v) = ap p again ∙ R.complete a x ((t ∷ y) ++ v) h le off in
       let e3 : remaining (read_sequence p q (u ++ v)) ≡ remaining (q ((t ∷ y) ++ v)) = ap (λ r. remaining {A = A × B} (and_then r (λ a r. and_then (q r) (λ c r'. Ok ((a, c), r'))))) e2 ∙ shrinks a ((t ∷ y) ++ v) in
       subst (λ n. n ≤ length v) (sym e3) (S.reach (t ∷ y) v g)

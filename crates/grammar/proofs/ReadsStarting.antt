@@ -2,11 +2,11 @@
 use Rattle.std.proofs.Common.{◌≡◌, ℕ, ◌≤◌, Bool, true, false, ◌&&◌, List, [], ◌∷◌, ◌++◌, length, Result, Ok, Err, inl, inr, refl, sym, ap, ◌∙◌, subst, le_refl, le_trans, true≢false}
 use Rattle.std.specs.Prelude.{if◌then◌else◌}
 use Rattle.grammar.specs.Forms.{StartsIn, StartingSpells, StartingFront}
-use Rattle.grammar.specs.FormReaders.{NextNotIn, remaining, Reads, read_starting}
+use Rattle.grammar.specs.FormReaders.{NextNot, remaining, Reads, read_starting}
 use Rattle.grammar.proofs.Lists.{err_ok, err_inj, cons_nil, heads, and_both, cases_if, if_true, le_of_eq}
 
-module _ {T A : Type 0} (g : T → Bool) {W : A → List T → Type 0} {F : List T → Type 0} {d : A → ℕ} {b : ℕ} {first continues : T → Bool} {p : List T → Result (A × List T) (List T)}
-    (R : Reads W F d b first continues false p) where
+module _ {T A : Type 0} (g : T → Bool) {W : A → List T → Type 0} {F : List T → Type 0} {d : A → ℕ} {b : ℕ} {first : T → Bool} {goes_on : A → T → Type 0} {p : List T → Result (A × List T) (List T)}
+    (R : Reads W F d b first goes_on false p) where
   -- what was read is not empty, so it begins as the list does
   begins : (a : A) (t : T) (u r rest : List T) → W a u → t ∷ r ≡ u ++ rest → g t ≡ true → StartsIn g u
   begins a t [] r rest h e k = true≢false (sym (R.empty a h))
@@ -30,7 +30,7 @@ module _ {T A : Type 0} (g : T → Bool) {W : A → List T → Type 0} {F : List
     | inr k ↦ ([], err_inj k.1, inl refl)
   ]
 
-  on_complete : (a : A) (u rest : List T) → StartingSpells g W a u → d a ≤ b → NextNotIn continues rest → read_starting g p (u ++ rest) ≡ Ok (a, rest)
+  on_complete : (a : A) (u rest : List T) → StartingSpells g W a u → d a ≤ b → NextNot (goes_on a) rest → read_starting g p (u ++ rest) ≡ Ok (a, rest)
   on_complete a [] rest h le off = absurd h.0
   on_complete a (t ∷ u) rest h le off = if_true (g t) (p (t ∷ (u ++ rest))) (Err (t ∷ (u ++ rest))) h.0 ∙ R.complete a (t ∷ u) rest h.1 le off
 
@@ -56,5 +56,5 @@ module _ {T A : Type 0} (g : T → Bool) {W : A → List T → Type 0} {F : List
   on_closed (t ∷ u) v (inl e) = cons_nil e
   on_closed (t ∷ u) v (inr h) = inr (h.0, R.closed (t ∷ u) v h.1)
 
-  pub starting_reads : Reads (StartingSpells g W) (StartingFront g F) d b (λ t. g t && first t) continues false (read_starting g p)
+  pub starting_reads : Reads (StartingSpells g W) (StartingFront g F) d b (λ t. g t && first t) goes_on false (read_starting g p)
   starting_reads = record { sound = on_sound; refusal = on_fault; complete = on_complete; reach = on_reach; starts = on_starts; holds = λ a u h le. inr (h.0, R.holds a u h.1 le); closed = on_closed; nothing = inl refl; empty = λ a h. absurd h.0 }

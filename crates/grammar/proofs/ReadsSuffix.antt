@@ -1,19 +1,19 @@
 -- A rule with at most one part behind it.
-use Rattle.std.proofs.Common.{◌≡◌, ℕ, ◌+◌, ◌≤◌, max, Bool, true, false, ◌&&◌, ◌||◌, List, [], ◌∷◌, ◌++◌, length, Result, Ok, Err, ◌⊎◌, inl, inr, refl, sym, ap, ◌∙◌, subst, append_assoc, append-nil, arith, le_refl, le_trans, true≢false}
+use Rattle.std.proofs.Common.{◌≡◌, ℕ, ◌+◌, ◌≤◌, max, Bool, true, false, ◌&&◌, List, [], ◌∷◌, ◌++◌, length, Result, Ok, Err, ◌⊎◌, inl, inr, refl, sym, ap, ◌∙◌, subst, append_assoc, append-nil, arith, le_refl, le_trans, true≢false}
 use Rattle.std.specs.Prelude.{if◌then◌else◌}
 use Rattle.grammar.specs.Forms.{SuffixSpells, BehindSuffix}
-use Rattle.grammar.specs.FormReaders.{NextNotIn, remaining, Reads, and_then, read_one_suffix, read_suffix}
-use Rattle.grammar.proofs.Lists.{ok_err, ok_inj, heads, bind_ok, bind_err, cut, append_empty, or_left, or_right, and_split, and_both, cases_if, if_true, if_false, le_of_eq}
+use Rattle.grammar.specs.FormReaders.{NextNot, remaining, Reads, and_then, read_one_suffix, read_suffix}
+use Rattle.grammar.proofs.Lists.{ok_err, ok_inj, heads, bind_ok, bind_err, cut, append_empty, and_split, and_both, cases_if, if_true, if_false, le_of_eq, off_less}
 
 module _ {T A S : Type 0} {W : A → List T → Type 0} {F : List T → Type 0} {d : A → ℕ} {V : S → List T → Type 0} {G : List T → Type 0} {e : S → ℕ} {b : ℕ} (B levels : ℕ) (lv : B ≡ levels + b)
-    {first1 cont1 first2 cont2 : T → Bool} {p : List T → Result (A × List T) (List T)} {q : List T → Result (S × List T) (List T)}
+    {first1 first2 : T → Bool} {cont1 : A → T → Type 0} {cont2 : S → T → Type 0} {p : List T → Result (A × List T) (List T)} {q : List T → Result (S × List T) (List T)}
     (f : A → S → A) (ok : A → Bool) (fits : A → Bool)
     (R : Reads W F d B first1 cont1 false p) (Q : Reads V G e b first2 cont2 false q)
     (stops : (l : A) (u : List T) (t : T) (r : List T) → W l u → d l ≤ B → ok l ≡ true → first2 t ≡ true → p (u ++ t ∷ r) ≡ Ok (l, t ∷ r))
     (fits_is : (l : A) → fits l ≡ true → (ok l ≡ true) × (d l ≤ b)) (fits_if : (l : A) → ok l ≡ true → d l ≤ b → fits l ≡ true)
     (over : (l : A) (s : S) (w : List T) → ok l ≡ true → V s w → d (f l s) ≡ levels + max (d l) (e s)) where
-  abbrev pub tail_cont : T → Bool
-  tail_cont t = cont1 t || (cont2 t || first2 t)
+  abbrev pub suffix_cont : A → T → Type 0
+  suffix_cont x t = cont1 x t ⊎ (((l : A) × (s : S) × (x ≡ f l s) × (ok l ≡ true) × cont2 s t) ⊎ ((ok x ≡ true) × (first2 t ≡ true)))
 
   abbrev one : A → List T → Result (A × List T) (List T)
   one = read_one_suffix first2 fits f q
@@ -84,32 +84,25 @@ module _ {T A S : Type 0} {W : A → List T → Type 0} {F : List T → Type 0} 
         (g.0, s.1 ∙ g.1, g.2)
   ]
 
-  off_1 : (rest : List T) → NextNotIn tail_cont rest → NextNotIn cont1 rest
-  off_1 [] off = tt
-  off_1 (t ∷ r) off = λ k. off (or_left (cont1 t) _ k)
-
-  off_2 : (rest : List T) → NextNotIn tail_cont rest → NextNotIn cont2 rest
-  off_2 [] off = tt
-  off_2 (t ∷ r) off = λ k. off (or_right (cont1 t) _ (or_left (cont2 t) _ k))
-
-  one_end : (x : A) (rest : List T) → NextNotIn tail_cont rest → one x rest ≡ Ok (x, rest)
+  one_end : (x : A) (rest : List T) → NextNot (suffix_cont x) rest → one x rest ≡ Ok (x, rest)
   one_end x [] off = refl
-  one_end x (t ∷ r) off = if_false (first2 t && fits x) (and_then (q (t ∷ r)) (λ s after. Ok (f x s, after))) (Ok (x, t ∷ r)) (λ k. off (or_right (cont1 t) _ (or_right (cont2 t) _ ((and_split (first2 t) (fits x) k).0))))
+  one_end x (t ∷ r) off = if_false (first2 t && fits x) (and_then (q (t ∷ r)) (λ s after. Ok (f x s, after))) (Ok (x, t ∷ r))
+      (λ k. let two = and_split (first2 t) (fits x) k in off (inr (inr ((fits_is x two.1).0, two.0))))
 
   begin : (l : A) (u : List T) (t : T) (w v : List T) → W l u → ok l ≡ true → d l ≤ b → first2 t ≡ true → read (u ++ ((t ∷ w) ++ v)) ≡ and_then (q ((t ∷ w) ++ v)) (λ s after. Ok (f l s, after))
   begin l u t w v h k le here =
       ap (λ r. and_then r one) (stops l u t (w ++ v) h (omega (arith, le)) k here)
       ∙ if_true (first2 t && fits l) (and_then (q (t ∷ (w ++ v))) (λ s after. Ok (f l s, after))) (Ok (l, t ∷ (w ++ v))) (and_both (first2 t) (fits l) here (fits_if l k le))
 
-  tail_complete : (x : A) (u rest : List T) → Whole x u → d x ≤ B → NextNotIn tail_cont rest → read (u ++ rest) ≡ Ok (x, rest)
-  tail_complete x u rest (inl h) le off = ap (λ r. and_then r one) (R.complete x u rest h le (off_1 rest off)) ∙ one_end x rest off
+  tail_complete : (x : A) (u rest : List T) → Whole x u → d x ≤ B → NextNot (suffix_cont x) rest → read (u ++ rest) ≡ Ok (x, rest)
+  tail_complete x u rest (inl h) le off = ap (λ r. and_then r one) (R.complete x u rest h le (off_less (λ t k. inl k) rest off)) ∙ one_end x rest off
   tail_complete x u rest (inr (l, s, v, [], e1, e2, k, h, g)) le off = absurd (true≢false (sym (Q.empty s g)))
   tail_complete x u rest (inr (l, s, v, t ∷ w, e1, e2, k, h, g)) le off =
       let deep : d x ≡ levels + max (d l) (e s) = ap d e1 ∙ over l s (t ∷ w) k g in
       let le2 : e s ≤ b = omega (arith, deep, le) in
       let again : u ++ rest ≡ v ++ ((t ∷ w) ++ rest) = ap (λ z. z ++ rest) e2 ∙ append_assoc v (t ∷ w) rest in
       ap read again ∙ begin l v t w rest h k (omega (arith, deep, le)) (Q.starts t w (Q.holds s (t ∷ w) g le2))
-      ∙ ap (λ r. and_then r (λ s after. Ok (f l s, after))) (Q.complete s (t ∷ w) rest g le2 (off_2 rest off)) ∙ ap (λ z. Ok (z, rest)) (sym e1)
+      ∙ ap (λ r. and_then r (λ s after. Ok (f l s, after))) (Q.complete s (t ∷ w) rest g le2 (off_less (λ t i. inr (inl (l, s, e1, k, i))) rest off)) ∙ ap (λ z. Ok (z, rest)) (sym e1)
 
   then_same : (l : A) (o : Result (S × List T) (List T)) → remaining (and_then o (λ s after. Ok (f l s, after))) ≡ remaining o
   then_same l (Ok y) = refl
@@ -157,5 +150,5 @@ module _ {T A S : Type 0} {W : A → List T → Type 0} {F : List T → Type 0} 
   tail_empty x (inl h) = R.empty x h
   tail_empty x (inr (l, s, v, w, e1, e2, k, h, g)) = R.empty l (subst (W l) ((append_empty v w e2).0) h)
 
-  pub suffix_reads : Reads (SuffixSpells W ok V f) Front d B first1 tail_cont false (read_suffix first2 fits f p q)
+  pub suffix_reads : Reads (SuffixSpells W ok V f) Front d B first1 suffix_cont false (read_suffix first2 fits f p q)
   suffix_reads = record { sound = tail_sound; refusal = tail_fault; complete = tail_complete; reach = tail_reach; starts = tail_starts; holds = tail_holds; closed = tail_closed; nothing = inl R.nothing; empty = tail_empty }

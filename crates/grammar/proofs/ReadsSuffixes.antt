@@ -2,13 +2,13 @@
 use Rattle.std.proofs.Common.{◌≡◌, ℕ, zero, suc, ◌+◌, ◌≤◌, max, Bool, true, false, ◌&&◌, ◌||◌, List, [], ◌∷◌, ◌++◌, length, Result, Ok, Err, ◌⊎◌, inl, inr, refl, sym, ap, ◌∙◌, subst, append_assoc, append-nil, length-append, arith, le_refl, le_trans, true≢false}
 use Rattle.std.specs.Prelude.{if◌then◌else◌}
 use Rattle.grammar.specs.Forms.{ChainSpells, SuffixesSpell, BehindSuffixes}
-use Rattle.grammar.specs.FormReaders.{NextNotIn, Apart, remaining, Reads, and_then, read_more_suffixes, read_suffixes}
+use Rattle.grammar.specs.FormReaders.{NextNotIn, By, Apart, remaining, Reads, and_then, read_more_suffixes, read_suffixes}
 use Rattle.grammar.proofs.Lists.{ok_err, ok_inj, heads, bind_ok, bind_err, cut, append_empty, or_left, or_right, and_split, and_both, cases_if, if_true, if_false, le_of_eq}
 
 module _ {T A S : Type 0} {W : A → List T → Type 0} {F : List T → Type 0} {d : A → ℕ} {V : S → List T → Type 0} {G : List T → Type 0} {e : S → ℕ} {b : ℕ} (B levels : ℕ) (lv : B ≡ levels + b)
     {first1 cont1 first2 cont2 : T → Bool} {p : List T → Result (A × List T) (List T)} {q : List T → Result (S × List T) (List T)}
     (f : A → S → A) (fits : A → Bool)
-    (R : Reads W F d B first1 cont1 false p) (Q : Reads V G e b first2 cont2 false q)
+    (R : Reads W F d B first1 (By cont1) false p) (Q : Reads V G e b first2 (By cont2) false q)
     (apart1 : Apart cont1 first2) (apart2 : Apart cont2 first2)
     (fits_is : (l : A) → fits l ≡ true → d l ≤ b) (fits_if : (l : A) → d l ≤ b → fits l ≡ true)
     (over : (l : A) (s : S) → d (f l s) ≡ levels + max (d l) (e s)) where
@@ -223,7 +223,7 @@ module _ {T A S : Type 0} {W : A → List T → Type 0} {F : List T → Type 0} 
       let deep : d x ≡ levels + max (d l) (e s) = ap d e1 ∙ over l s in
       inr (l, v, w, e2, (k, h), omega (arith, deep, le), Q.holds s w g (omega (arith, deep, le)))
 
-  pub suffixes_reads : Reads (SuffixesSpell W V f) Front d B first1 left_cont false (read_suffixes first2 fits f p q)
+  pub suffixes_reads : Reads (SuffixesSpell W V f) Front d B first1 (By left_cont) false (read_suffixes first2 fits f p q)
   suffixes_reads = record {
     sound = left_sound;
     refusal = left_fault;

@@ -4,7 +4,7 @@ use Rattle.std.specs.Prelude.{nat_le, ◌&&◌, if◌then◌else◌}
 use Rattle.grammar.specs.FormReaders.{Reads, and_then, next_in, read_many, read_more_suffixes, under, read_suffixes_at, read_suffix_at}
 use Rattle.grammar.specs.Rules.{Sort, El, deep, Rule, token, token_where, absent, sequence, choice, view, node, many, suffixes, suffix, starting, bind, needs, named, Grammar}
 use Rattle.grammar.specs.Spelling.{RuleSpells, Derives, RuleFront, DerivesFront}
-use Rattle.grammar.specs.Checks.{nullable, first, continues, Checks, Guarded, Predictive}
+use Rattle.grammar.specs.Checks.{nullable, first, GoesOn, Checks, Guarded, Predictive}
 use Rattle.grammar.specs.Readers.{Reader, read_rule, read_within, read_named}
 use Rattle.grammar.proofs.ReadsLevels.{under_some}
 use Rattle.grammar.proofs.ReadsRules.{reads, derives_nullable, read_within_reads}
@@ -27,7 +27,7 @@ module _ {T N K : Type 0} {sorts : K → Sort} (G : Grammar T N K sorts) (S : Pr
   abbrev new : {s : Sort} → Rule T N K sorts s → ℕ → List T → Result (El T N s × List T) (List T)
   new r b ts = read_rule G env' r b ts
 
-  abbrev R : {s : Sort} (r : Rule T N K sorts s) (b : ℕ) → Checks G r → Reads (RuleSpells G (Derives G n) r) (RuleFront G (Derives G n) (DerivesFront G n) r b) (deep T G.depth s) b (λ t. first G r (G.code t)) (λ t. continues G r (G.code t)) (nullable G r) (read_rule G (read_within G n) r b)
+  abbrev R : {s : Sort} (r : Rule T N K sorts s) (b : ℕ) → Checks G r → Reads (RuleSpells G (Derives G n) r) (RuleFront G (Derives G n) (DerivesFront G n) r b) (deep T G.depth s) b (λ t. first G r (G.code t)) (λ a t. GoesOn G r a (G.code t)) (nullable G r) (read_rule G (read_within G n) r b)
   R r b c = reads G S (Derives G n) (DerivesFront G n) (read_within G n) (derives_nullable G S n) (λ c k. read_within_reads G S n c k) r b c
 
   used : {s : Sort} (r : Rule T N K sorts s) (c : Checks G r) (b : ℕ) (ts : List T) (a : El T N s) (rest : List T) → old r b ts ≡ Ok (a, rest) → length rest ≤ length ts

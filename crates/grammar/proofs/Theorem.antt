@@ -1,5 +1,5 @@
 -- What a reader of a sound table answers, and that tokens spell one tree.
-use Rattle.std.proofs.Common.{◌≡◌, ℕ, zero, suc, ◌+◌, ◌-◌, ◌≤◌, max, List, [], ◌∷◌, ◌++◌, length, take, Result, Ok, Err, inl, inr, refl, sym, ap, ◌∙◌, subst, append_assoc, append-nil, length-append, arith}
+use Rattle.std.proofs.Common.{◌≡◌, ℕ, zero, suc, ◌+◌, ◌-◌, ◌≤◌, max, true, List, [], ◌∷◌, ◌++◌, length, take, Result, Ok, Err, inl, inr, refl, sym, ap, ◌∙◌, subst, append_assoc, append-nil, length-append, arith}
 use Rattle.grammar.specs.FormReaders.{remaining, Reads}
 use Rattle.grammar.specs.Rules.{Sort, El, deep, Grammar}
 use Rattle.grammar.specs.Spelling.{Spells, IsFront}
@@ -20,7 +20,7 @@ take_one (s ∷ u) t r = ap (λ l. s ∷ l) (take_one u t r)
 
 module _ {T N K : Type 0} {sorts : K → Sort} (G : Grammar T N K sorts) (S : Predictive G) (k : K) where
   module _ (b : ℕ) where
-    abbrev R : Reads (Spells G k) (IsFront G k b) (deep T G.depth (sorts k)) b (λ t. G.name_first k (G.code t)) (λ t. G.name_continues k (G.code t)) (G.name_nullable k) (read_named G b k)
+    abbrev R : Reads (Spells G k) (IsFront G k b) (deep T G.depth (sorts k)) b (λ t. G.name_first k (G.code t)) (λ a t. G.name_goes_on k a (G.code t) ≡ true) (G.name_nullable k) (read_named G b k)
     R = read_named_reads G S b k
 
     -- where the reader stopped, by what is left

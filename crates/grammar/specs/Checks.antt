@@ -61,6 +61,19 @@ module _ {T N K : Type 0} {sorts : K → Sort} (G : Grammar T N K sorts) where
   continues (needs n r) t = continues r t
   continues (named k) t = G.name_continues k t
 
+  -- the classes of tokens that can go on behind a whole one of that value, as far as the value tells
+  abbrev pub GoesOn : {s : Sort} → Rule T N K sorts s → El T N s → ℕ → Type 0
+  GoesOn (sequence r q) x t = GoesOn q (x.1) t ⊎ ((nullable q ≡ true) × GoesOn r (x.0) t)
+  GoesOn (choice r q) x t = GoesOn r x t ⊎ (GoesOn q x t ⊎ ((nullable q ≡ true) × (first r t ≡ true)))
+  GoesOn (view {s = s} f r) x t = (a : El T N s) × (x ≡ f a) × GoesOn r a t
+  GoesOn (node {s = s} f r) x t = (a : El T N s) × (x ≡ f a) × GoesOn r a t
+  GoesOn (suffix {s = s} {r = r'} levels r ok q f) x t =
+      GoesOn r x t ⊎ (((l : El T N s) × (y : El T N r') × (x ≡ f l y) × (ok l ≡ true) × GoesOn q y t) ⊎ ((ok x ≡ true) × (first q t ≡ true)))
+  GoesOn (starting g r) x t = GoesOn r x t
+  GoesOn (needs n r) x t = GoesOn r x t
+  GoesOn (named k) x t = G.name_goes_on k x t ≡ true
+  GoesOn r x t = continues r t ≡ true
+
   -- no class is in both
   abbrev pub Disjoint : (ℕ → Bool) → (ℕ → Bool) → Type 0
   Disjoint c f = none_below (G.size) (λ n. c n && f n) ≡ true
@@ -85,7 +98,7 @@ module _ {T N K : Type 0} {sorts : K → Sort} (G : Grammar T N K sorts) where
   Checks (many r) = Disjoint (continues r) (first r) × (nullable r ≡ false) × Checks r
   Checks (suffixes {s = s} {r = r'} levels r q f) = Disjoint (continues r) (first q) × Disjoint (continues q) (first q) × (nullable r ≡ false) × (nullable q ≡ false)
       × ((l : El T N s) (x : El T N r') → deep T G.depth s (f l x) ≡ levels + max (deep T G.depth s l) (deep T G.depth r' x)) × Checks r × Checks q
-  Checks (suffix {s = s} {r = r'} levels r ok q f) = Disjoint (continues r) (first q) × (nullable r ≡ false) × (nullable q ≡ false)
+  Checks (suffix {s = s} {r = r'} levels r ok q f) = (Disjoint (continues r) (first q) ⊎ ((l : El T N s) (t : ℕ) → t < G.size → ok l ≡ true → GoesOn r l t → first q t ≡ true → ⊥)) × (nullable r ≡ false) × (nullable q ≡ false)
       × ((l : El T N s) (x : El T N r') → ok l ≡ true → deep T G.depth s (f l x) ≡ levels + max (deep T G.depth s l) (deep T G.depth r' x)) × Checks r × Checks q
   Checks (starting g r) = (nullable r ≡ false) × Checks r
   Checks (bind {s = s} r null begins goes_on q) = Disjoint (continues r) begins × Checks r
@@ -116,4 +129,6 @@ module _ {T N K : Type 0} {sorts : K → Sort} (G : Grammar T N K sorts) where
     pub within : (t : T) → G.code t < G.size
     pub begins : (k : K) → included (G.size) (first (G.production k)) (G.name_first k) ≡ true
     pub goes_on : (k : K) → included (G.size) (continues (G.production k)) (G.name_continues k) ≡ true
+    pub by_value : (k : K) (a : El T N (sorts k)) (t : ℕ) → t < G.size → GoesOn (G.production k) a t → G.name_goes_on k a t ≡ true
+    pub bounded : (k : K) (a : El T N (sorts k)) (t : ℕ) → G.name_goes_on k a t ≡ true → G.name_continues k t ≡ true
     pub empties : (k : K) → nullable (G.production k) ≡ true → G.name_nullable k ≡ true

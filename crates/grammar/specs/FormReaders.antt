@@ -2,10 +2,17 @@
 -- A reader answers with a value and the tokens behind it, or with the tokens from the refused one on.
 use Rattle.std.specs.Prelude.{◌≡◌, ℕ, zero, suc, ◌≤◌, Bool, true, false, ◌&&◌, List, [], ◌∷◌, ◌++◌, length, Option, Some, None, Result, Ok, Err, if◌then◌else◌, nat_le}
 
--- the next token is not in the class
+-- the next token is none of those
+abbrev pub NextNot : {T : Type 0} → (T → Type 0) → List T → Type 0
+NextNot c [] = Unit {0}
+NextNot c (t ∷ r) = c t → ⊥
+
 abbrev pub NextNotIn : {T : Type 0} → (T → Bool) → List T → Type 0
-NextNotIn c [] = Unit {0}
-NextNotIn c (t ∷ r) = c t ≡ true → ⊥
+NextNotIn c ts = NextNot (λ t. c t ≡ true) ts
+
+-- those of a class, whatever the value before
+abbrev pub By : {T A : Type 0} → (T → Bool) → A → T → Type 0
+By c a t = c t ≡ true
 
 abbrev pub Apart : {T : Type 0} → (T → Bool) → (T → Bool) → Type 0
 Apart {T} c f = (t : T) → c t ≡ true → f t ≡ true → ⊥
@@ -14,12 +21,12 @@ abbrev pub remaining : {T A : Type 0} → Result (A × List T) (List T) → ℕ
 remaining (Ok x) = length (x.1)
 remaining (Err r) = length r
 
--- `first` has the tokens that begin the rule, `continues` those that can go on behind a whole one, and `null` tells
--- whether no token at all can spell it. The values are within the levels `b` by their depth `d`.
-pub record Reads {T A : Type 0} (W : A → List T → Type 0) (F : List T → Type 0) (d : A → ℕ) (b : ℕ) (first continues : T → Bool) (null : Bool) (p : List T → Result (A × List T) (List T)) : Type 0 where
+-- `first` has the tokens that begin the rule, `continues` those that can go on behind a whole one of that value, and `null`
+-- tells whether no token at all can spell it. The values are within the levels `b` by their depth `d`.
+pub record Reads {T A : Type 0} (W : A → List T → Type 0) (F : List T → Type 0) (d : A → ℕ) (b : ℕ) (first : T → Bool) (continues : A → T → Type 0) (null : Bool) (p : List T → Result (A × List T) (List T)) : Type 0 where
   pub sound : (ts : List T) (a : A) (rest : List T) → p ts ≡ Ok (a, rest) → (u : List T) × (ts ≡ u ++ rest) × W a u × (d a ≤ b)
   pub refusal : (ts rest : List T) → p ts ≡ Err rest → (u : List T) × (ts ≡ u ++ rest) × F u
-  pub complete : (a : A) (u rest : List T) → W a u → d a ≤ b → NextNotIn continues rest → p (u ++ rest) ≡ Ok (a, rest)
+  pub complete : (a : A) (u rest : List T) → W a u → d a ≤ b → NextNot (continues a) rest → p (u ++ rest) ≡ Ok (a, rest)
   -- it gets past every front
   pub reach : (u v : List T) → F u → remaining (p (u ++ v)) ≤ length v
   pub starts : (t : T) (u : List T) → F (t ∷ u) → first t ≡ true

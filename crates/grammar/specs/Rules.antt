@@ -67,3 +67,5 @@ pub record Grammar (T N K : Type 0) (sorts : K → Sort) : Type 0 where
   pub name_nullable : K → Bool
   pub name_first : K → ℕ → Bool
   pub name_continues : K → ℕ → Bool
+  -- those of the last that can go on behind a whole one of that value
+  pub name_goes_on : (k : K) → El T N (sorts k) → ℕ → Bool

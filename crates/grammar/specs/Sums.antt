@@ -52,4 +52,4 @@ abbrev pub begins : ℕ → Bool
 begins n = class 0 n || class 2 n
 
 abbrev pub table : Grammar Token Tree Name sort
-table = record { code = code; size = 4; depth = depth; production = production; name_nullable = λ k. false; name_first = λ k. begins; name_continues = λ k. class 1 }
+table = record { code = code; size = 4; depth = depth; production = production; name_nullable = λ k. false; name_first = λ k. begins; name_continues = λ k. class 1; name_goes_on = λ k a. class 1 }
