@@ -1,33 +1,33 @@
 -- Classes of tokens: disjoint, included, and those that go on behind a value.
-use Rattle.std.proofs.Common.{◌≡◌, ℕ, zero, suc, ◌<◌, Bool, true, false, ◌&&◌, inl, inr, refl, sym, ap, ◌∙◌, arith, true≢false, eq-or-lt_of_le, le_of_suc-le-suc}
+use Rattle.std.proofs.Common.{◌≡◌, ℕ, zero, suc, ◌<◌, Bool, true, false, ◌&&◌, [], ◌∷◌, inl, inr, refl, sym, ap, ◌∙◌, arith, true≢false, eq-or-lt_of_le, le_of_suc-le-suc}
 use Rattle.std.specs.Prelude.{if◌then◌else◌}
 use Rattle.grammar.specs.FormReaders.{Apart}
 use Rattle.grammar.specs.Rules.{Sort, El, Rule, token, token_where, absent, sequence, choice, view, node, many, suffixes, suffix, starting, bind, needs, named, Grammar}
-use Rattle.grammar.specs.Checks.{none_below, included, nullable, continues, GoesOn, Disjoint}
-use Rattle.grammar.proofs.Lists.{or_left, or_right, and_both}
+use Rattle.grammar.specs.Checks.{classes_in, Included, nullable, continues, GoesOn, Disjoint}
+use Rattle.grammar.proofs.Lists.{cons_nil, or_left, or_right, and_both}
 
 pub never : {c : Bool} → c ≡ false → c ≡ true → ⊥
 never h g = true≢false (sym g ∙ h)
 
-pub clear_at : (n : ℕ) (f : ℕ → Bool) (k : ℕ) → none_below n f ≡ true → k < n → f k ≡ true → ⊥
+pub clear_at : (n : ℕ) (f : ℕ → Bool) (k : ℕ) → classes_in n f ≡ [] → k < n → f k ≡ true → ⊥
 clear_at zero f k h lt e = let no : ⊥ = omega (arith, lt) in no
 clear_at (suc n) f k h lt e = by (λ y less. clear_at n f k y less e) (f n) refl h
   where
-    by : (none_below n f ≡ true → k < n → ⊥) → (c : Bool) → f n ≡ c → (if c then false else none_below n f) ≡ true → ⊥
-    by go true x y = true≢false (sym y)
+    by : (classes_in n f ≡ [] → k < n → ⊥) → (c : Bool) → f n ≡ c → (if c then n ∷ classes_in n f else classes_in n f) ≡ [] → ⊥
+    by go true x y = cons_nil y
     by go false x y = elim (eq-or-lt_of_le (le_of_suc-le-suc lt)) [
       | inl same ↦ true≢false (sym e ∙ ap f same ∙ x)
       | inr less ↦ go y less
     ]
 
-pub included_at : (n : ℕ) (f g : ℕ → Bool) (k : ℕ) → included n f g ≡ true → k < n → f k ≡ true → g k ≡ true
-included_at n f g k h lt e = by (g k) refl
-  where
-    by : (c : Bool) → g k ≡ c → c ≡ true
-    by true x = refl
-    by false x = absurd (clear_at n (λ j. if g j then false else f j) k h lt (ap (λ c. if c then false else f k) x ∙ e))
-
 module _ {T N K : Type 0} {sorts : K → Sort} (G : Grammar T N K sorts) where
+  pub included_at : (f g : ℕ → Bool) (k : ℕ) → Included G f g → k < G.size → f k ≡ true → g k ≡ true
+  included_at f g k h lt e = by (g k) refl
+    where
+      by : (c : Bool) → g k ≡ c → c ≡ true
+      by true x = refl
+      by false x = absurd (clear_at G.size (λ j. if g j then false else f j) k h lt (ap (λ c. if c then false else f k) x ∙ e))
+
   pub apart : (within : (t : T) → G.code t < G.size) (c f : ℕ → Bool) → Disjoint G c f → Apart (λ t. c (G.code t)) (λ t. f (G.code t))
   apart within c f h t k j = clear_at G.size (λ n. c n && f n) (G.code t) h (within t) (and_both (c (G.code t)) _ k j)
 
@@ -53,9 +53,14 @@ module _ {T N K : Type 0} {sorts : K → Sort} (G : Grammar T N K sorts) where
   continues_of h (needs n r) a t x = continues_of h r a t x
   continues_of h (named k) a t x = h k a t x
 
+  -- what goes on behind a production's value goes on behind its name
+  pub by_class : ((k : K) (a : El T N (sorts k)) (t : ℕ) → G.name_goes_on k a t ≡ true → G.name_continues k t ≡ true)
+      → (k : K) → Included G (continues G (G.production k)) (G.name_continues k) → (a : El T N (sorts k)) (t : ℕ) → t < G.size → GoesOn G (G.production k) a t → G.name_continues k t ≡ true
+  by_class h k all a t less x = included_at (continues G (G.production k)) (G.name_continues k) t all less (continues_of h (G.production k) a t x)
+
   -- where names go on by their class alone
   pub by_classes : ((k : K) (a : El T N (sorts k)) (t : ℕ) → G.name_goes_on k a t ≡ true → G.name_continues k t ≡ true)
       → ((k : K) (a : El T N (sorts k)) (t : ℕ) → G.name_continues k t ≡ true → G.name_goes_on k a t ≡ true)
-      → ((k : K) → included G.size (continues G (G.production k)) (G.name_continues k) ≡ true)
+      → ((k : K) → Included G (continues G (G.production k)) (G.name_continues k))
       → (k : K) (a : El T N (sorts k)) (t : ℕ) → t < G.size → GoesOn G (G.production k) a t → G.name_goes_on k a t ≡ true
-  by_classes h back all k a t less x = back k a t (included_at G.size (continues G (G.production k)) (G.name_continues k) t (all k) less (continues_of h (G.production k) a t x))
+  by_classes h back all k a t less x = back k a t (by_class h k (all k) a t less x)

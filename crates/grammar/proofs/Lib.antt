@@ -19,4 +19,4 @@ pub mod Outcomes
 pub mod FrontTests
 pub mod Loops
 pub mod Turns
-pub mod SumsMeetIt
+pub mod SmallGrammarMeets

@@ -149,7 +149,7 @@ module _ {T N K : Type 0} {sorts : K → Sort} (G : Grammar T N K sorts) where
       reads (bind r null begins goes_on q) b c =
           weaken (bind_reads {first2 = λ t. begins (G.code t)} {cont2 = λ t. goes_on (G.code t)} {null2 = null} (classes r b (nullable G r) (reads r b c.1))
           (λ a. let d = c.2 a in weaken (reads (q a) b d.3) (λ x u k. k) (λ x u k. k) (λ u k. k) (λ u k. k)
-          (λ t. included_at G.size (first G (q a)) begins (G.code t) d.0 (S.within t)) (λ x t i. included_at G.size (continues G (q a)) goes_on (G.code t) d.1 (S.within t) (continues_of G S.bounded (q a) x (G.code t) i)) d.2)
+          (λ t. included_at G (first G (q a)) begins (G.code t) d.0 (S.within t)) (λ x t i. included_at G (continues G (q a)) goes_on (G.code t) d.1 (S.within t) (continues_of G S.bounded (q a) x (G.code t) i)) d.2)
           (apart G S.within (continues G r) begins c.0))
           (λ a u x. x) (λ a u x. x) (λ u x. x) (λ u x. x) (λ t k. by_nullable (nullable G r) _ _ k) (λ a t k. k) (λ k. k)
       reads (needs n r) b c = needs_reads n (reads r b c.1) (λ a u x. at_least sp n r c.0 a u x)
@@ -175,4 +175,4 @@ module _ {T N K : Type 0} {sorts : K → Sort} (G : Grammar T N K sorts) where
     read_within_reads zero b k = nothing_read k b
     read_within_reads (suc n) b k =
         weaken (reads (Derives G n) (DerivesFront G n) (read_within G n) (derives_nullable n) (λ c k. read_within_reads n c k) (G.production k) b (S.checks k))
-        (λ a u x. x) (λ a u x. x) (λ u x. x) (λ u x. x) (λ t x. included_at G.size (first G (G.production k)) (G.name_first k) (G.code t) (S.begins k) (S.within t) x) (λ a t x. S.by_value k a (G.code t) (S.within t) x) (S.empties k)
+        (λ a u x. x) (λ a u x. x) (λ u x. x) (λ u x. x) (λ t x. included_at G (first G (G.production k)) (G.name_first k) (G.code t) (S.begins k) (S.within t) x) (λ a t x. S.by_value k a (G.code t) (S.within t) x) (S.empties k)

@@ -1,13 +1,12 @@
 -- What a grammar has to meet so that one token tells how to go on.
-use Rattle.std.specs.Prelude.{◌≡◌, ℕ, zero, suc, ◌+◌, ◌≤◌, ◌<◌, max, Bool, true, false, ◌&&◌, ◌||◌, ◌⊎◌, if◌then◌else◌}
+use Rattle.std.specs.Prelude.{◌≡◌, ℕ, zero, suc, ◌+◌, ◌≤◌, ◌<◌, max, Bool, true, false, ◌&&◌, ◌||◌, ◌⊎◌, List, [], ◌∷◌, if◌then◌else◌}
 use Rattle.grammar.specs.Rules.{Sort, El, deep, Rule, token, token_where, absent, sequence, choice, view, node, many, suffixes, suffix, starting, bind, needs, named, Grammar}
 
-abbrev pub none_below : ℕ → (ℕ → Bool) → Bool
-none_below zero f = true
-none_below (suc n) f = if f n then false else none_below n f
-
-abbrev pub included : ℕ → (ℕ → Bool) → (ℕ → Bool) → Bool
-included n f g = none_below n (λ k. if g k then false else f k)
+-- The classes below `n` in the set. What a check asks is that a list of classes is empty, so the goal of a failing one
+-- shows them.
+abbrev pub classes_in : ℕ → (ℕ → Bool) → List ℕ
+classes_in zero f = []
+classes_in (suc n) f = if f n then n ∷ classes_in n f else classes_in n f
 
 module _ {T N K : Type 0} {sorts : K → Sort} (G : Grammar T N K sorts) where
   -- whether no token can spell the rule
@@ -76,7 +75,11 @@ module _ {T N K : Type 0} {sorts : K → Sort} (G : Grammar T N K sorts) where
 
   -- no class is in both
   abbrev pub Disjoint : (ℕ → Bool) → (ℕ → Bool) → Type 0
-  Disjoint c f = none_below (G.size) (λ n. c n && f n) ≡ true
+  Disjoint c f = classes_in (G.size) (λ n. c n && f n) ≡ []
+
+  -- no class is in the first alone
+  abbrev pub Included : (ℕ → Bool) → (ℕ → Bool) → Type 0
+  Included f g = classes_in (G.size) (λ n. if g n then false else f n) ≡ []
 
   -- the values that the rule makes have so many levels
   abbrev pub AtLeast : {s : Sort} → ℕ → Rule T N K sorts s → Type 0
@@ -102,7 +105,7 @@ module _ {T N K : Type 0} {sorts : K → Sort} (G : Grammar T N K sorts) where
       × ((l : El T N s) (x : El T N r') → ok l ≡ true → deep T G.depth s (f l x) ≡ levels + max (deep T G.depth s l) (deep T G.depth r' x)) × Checks r × Checks q
   Checks (starting g r) = (nullable r ≡ false) × Checks r
   Checks (bind {s = s} r null begins goes_on q) = Disjoint (continues r) begins × Checks r
-      × ((a : El T N s) → (included (G.size) (first (q a)) begins ≡ true) × (included (G.size) (continues (q a)) goes_on ≡ true) × (nullable (q a) ≡ true → null ≡ true) × Checks (q a))
+      × ((a : El T N s) → Included (first (q a)) begins × Included (continues (q a)) goes_on × (nullable (q a) ≡ true → null ≡ true) × Checks (q a))
   Checks (needs n r) = AtLeast n r × Checks r
   Checks (named k) = Unit {0}
 
@@ -127,8 +130,8 @@ module _ {T N K : Type 0} {sorts : K → Sort} (G : Grammar T N K sorts) where
     pub checks : (k : K) → Checks (G.production k)
     pub guarded : (k : K) → Guarded (G.production k)
     pub within : (t : T) → G.code t < G.size
-    pub begins : (k : K) → included (G.size) (first (G.production k)) (G.name_first k) ≡ true
-    pub goes_on : (k : K) → included (G.size) (continues (G.production k)) (G.name_continues k) ≡ true
+    pub begins : (k : K) → Included (first (G.production k)) (G.name_first k)
+    pub goes_on : (k : K) → Included (continues (G.production k)) (G.name_continues k)
     pub by_value : (k : K) (a : El T N (sorts k)) (t : ℕ) → t < G.size → GoesOn (G.production k) a t → G.name_goes_on k a t ≡ true
     pub bounded : (k : K) (a : El T N (sorts k)) (t : ℕ) → G.name_goes_on k a t ≡ true → G.name_continues k t ≡ true
     pub empties : (k : K) → nullable (G.production k) ≡ true → G.name_nullable k ≡ true

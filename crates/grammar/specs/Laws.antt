@@ -5,7 +5,7 @@ use Rattle.grammar.specs.Spelling.{Spells}
 use Rattle.grammar.specs.Checks.{Predictive}
 use Rattle.grammar.specs.Readers.{read_named, read_rule}
 use Rattle.grammar.specs.Reading.{SpellsWithin, RefusedAt, read_all}
-use Rattle.grammar.specs.Sums.{table}
+use Rattle.grammar.specs.Statements.{table}
 
 module _ (T N K : Type 0) where
   -- tokens spell one value at most
@@ -28,6 +28,6 @@ module _ (T N K : Type 0) where
   abbrev pub ReadsByProduction : Type 0
   ReadsByProduction = (sorts : K → Sort) (G : Grammar T N K sorts) → Predictive G → (b : ℕ) (k : K) (ts : List T) → read_named G b k ts ≡ read_rule G (read_named G) (G.production k) b ts
 
--- there are such grammars
-abbrev pub SumsAreGuided : Type 0
-SumsAreGuided = Predictive table
+-- there are such grammars, with a production of each form
+abbrev pub SmallGrammar : Type 0
+SmallGrammar = Predictive table

@@ -6,4 +6,4 @@ pub mod Checks
 pub mod Readers
 pub mod Reading
 pub mod Laws
-pub mod Sums
+pub mod Statements

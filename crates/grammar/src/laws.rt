@@ -1,6 +1,6 @@
 //! Laws of grammars, each the contract of a function that does nothing.
 
-ghost use Rattle.grammar.specs.Laws.{OneValue, GivesWhatIsSpelled, ReadsWhatIsSpelled, RefusesAtOnce, ReadsByProduction, SumsAreGuided};
+ghost use Rattle.grammar.specs.Laws.{OneValue, GivesWhatIsSpelled, ReadsWhatIsSpelled, RefusesAtOnce, ReadsByProduction, SmallGrammar};
 
 /// Tokens spell one value at most.
 pub fn one_value<T, N, K>()
@@ -20,7 +20,7 @@ pub fn reads_by_production<T, N, K>()
     ensures { ReadsByProduction T N K }
 {}
 
-/// A small grammar of sums meets what the laws ask.
-pub fn sums()
-    ensures { SumsAreGuided }
+/// A small grammar with a production of each form meets what the laws ask.
+pub fn small_grammar()
+    ensures { SmallGrammar }
 {}

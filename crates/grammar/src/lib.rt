@@ -3,4 +3,4 @@
 
 mod laws;
 
-pub use laws::{one_value, reads_all, reads_by_production, sums};
+pub use laws::{one_value, reads_all, reads_by_production, small_grammar};
