@@ -15,8 +15,10 @@ pub mod Heights
 pub mod FrontHeights
 pub mod Stability
 pub mod Theorem
+pub mod OneAnswer
 pub mod Outcomes
 pub mod FrontTests
+pub mod Completions
 pub mod Loops
 pub mod Turns
 pub mod SmallGrammarMeets

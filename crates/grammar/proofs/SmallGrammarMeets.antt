@@ -1,12 +1,14 @@
 -- One token tells how to go on in the small grammar.
-use Rattle.std.proofs.Common.{◌≡◌, ℕ, suc, ◌≤◌, ◌<◌, max, true, ◌&&◌, List, [], ◌∷◌, Option, Some, None, inl, inr, refl, sym, ap, subst, arith, true≢false}
+use Rattle.std.proofs.Common.{◌∙◌, le_refl, false, ◌≡◌, ℕ, suc, ◌≤◌, ◌<◌, max, true, ◌&&◌, List, [], ◌∷◌, Option, Some, None, inl, inr, refl, sym, ap, subst, arith, true≢false}
 use Rattle.std.specs.Prelude.{nat_eq}
 use Rattle.grammar.specs.Forms.{deepest}
 use Rattle.grammar.specs.Rules.{deep_if, tree, marked, El, named}
 use Rattle.grammar.specs.Checks.{Included, nullable, first, continues, GoesOn, Checks, Guarded, Predictive}
-use Rattle.grammar.proofs.Lists.{or_split, or_left, or_right, and_split, and_both}
+use Rattle.grammar.specs.Spelling.{Spells, Derives}
+use Rattle.grammar.specs.Productive.{Productive, NoDeadEnds}
+use Rattle.grammar.proofs.Lists.{if_false, if_true, or_split, or_left, or_right, and_split, and_both}
 use Rattle.grammar.proofs.Classes.{by_class}
-use Rattle.grammar.specs.Statements.{Tree, word, words, not_, equal, when, either, loop, depth, Token, name, if_, else_, until, different, comma, open_, close, open_list, close_list, open_fields, close_fields, code, number, numbers, one, Name, stmt, expr, fields, sort, next_fields, some_fields, word_list, prim, compared, plain, branches, is_none, is_closed, then_part, parts, branched, conditional, looped, production, begins, statement_goes_on, goes_on, table}
+use Rattle.grammar.specs.Statements.{is_new, Tree, word, words, not_, equal, when, either, loop, depth, Token, name, if_, else_, until, different, comma, open_, close, open_list, close_list, open_fields, close_fields, code, number, numbers, one, Name, stmt, expr, fields, sort, next_fields, some_fields, word_list, prim, compared, plain, branches, is_none, is_closed, then_part, parts, branched, conditional, looped, production, begins, statement_goes_on, goes_on, table}
 use Rattle.grammar.specs.Statements as small
 
 -- tokens have no nodes
@@ -162,3 +164,37 @@ predictive = record {
   bounded = bounded;
   empties = λ x. elim x as (λ x. nullable table (production x) ≡ true → table.name_nullable x ≡ true) [ stmt ↦ λ h. h | expr ↦ λ h. h | fields seen ↦ λ h. h ];
 }
+
+-- a number above all of them
+above : List ℕ → ℕ
+above [] = 0
+above (n ∷ ns) = max (suc n) (above ns)
+
+new_above : (seen : List ℕ) (m : ℕ) → above seen ≤ m → is_new seen (name m) ≡ true
+unfolding above
+new_above [] m h = refl
+new_above (n ∷ ns) m h = if_false (nat_eq n m) false (is_new ns (name m)) (λ e. let no : ⊥ = omega (arith, h, equal_by n m e) in no) ∙ new_above ns m (omega (arith, h))
+
+some_names : (k : Name) → (p : El Token Tree (sort k)) × (u : List Token) × Spells table k p u
+unfolding Derives
+some_names stmt = ((word 0, 0), name 0 ∷ [], (1, inl (word 0, refl, (0, inl (name 0, refl, (name 0, refl, refl))))))
+some_names expr = (word 0, name 0 ∷ [], (1, (0, inl (name 0, refl, (name 0, refl, refl)))))
+some_names (fields seen) =
+    let m = above seen in
+    let t = name m in
+    let new = new_above seen m (le_refl m) in
+    (t ∷ [], t ∷ [], (1, ((t, []), refl, (t ∷ [], [], refl, (t, refl, if_true (is_new seen t) (Some t) None new), inr (refl, refl)))))
+
+p_prim : Productive table prim
+p_prim = ((name 0, refl), (((open_, refl), (tt, (close, refl))), (((open_list, refl), ((name 0, refl), (close_list, refl))), ((open_fields, refl), (tt, (close_fields, refl))))))
+
+p_compared : Productive table compared
+p_compared = (p_prim, ((different, refl), p_prim))
+
+productive : (k : Name) → Productive table (production k)
+productive stmt = (p_compared, ((((if_, refl), (tt, tt)), ((else_, refl), tt)), ((until, refl), (tt, tt))))
+productive expr = p_compared
+productive (fields seen) = let m = above seen in ((name m, refl, new_above seen m (le_refl m)), λ t. (((comma, refl), tt), tt))
+
+pub no_dead_ends : NoDeadEnds table
+no_dead_ends = record { names = some_names; productions = productive }

@@ -5,5 +5,6 @@ pub mod Spelling
 pub mod Checks
 pub mod Readers
 pub mod Reading
-pub mod Laws
+pub mod Productive
 pub mod Statements
+pub mod Laws
