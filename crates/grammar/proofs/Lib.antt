@@ -19,6 +19,8 @@ pub mod OneAnswer
 pub mod Outcomes
 pub mod FrontTests
 pub mod Completions
+pub mod Depths
+pub mod CommonChecks
 pub mod Loops
 pub mod Turns
 pub mod SmallGrammarMeets

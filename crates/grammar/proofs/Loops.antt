@@ -1,4 +1,4 @@
--- A loop that keeps what it found.
+-- Readers as loops.
 use Rattle.std.proofs.Common.{◌≡◌, ℕ, zero, suc, Bool, true, false, List, [], ◌∷◌, ◌++◌, Result, Ok, Err, refl, sym, ap, ◌∙◌, append_assoc, append-nil}
 use Rattle.std.specs.Prelude.{if◌then◌else◌}
 use Rattle.grammar.specs.FormReaders.{and_then, next_in, read_many, read_many_from}
@@ -22,3 +22,9 @@ module _ {T A : Type 0} (first : T → Bool) (p : List T → Result (A × List T
       by go true (Ok y) = go y.0 y.1 ∙ again found y.0 (read_many first p n y.1)
       by go true (Err y) = refl
       by go false o = ap (λ z. Ok (z, ts)) (sym (append-nil found))
+
+-- what is read behind two readers is read behind the second
+pub and_then_assoc : {T A B C : Type 0} (o : Result (A × List T) (List T)) (f : A → List T → Result (B × List T) (List T)) (g : B → List T → Result (C × List T) (List T))
+    → and_then (and_then o f) g ≡ and_then o (λ a r. and_then (f a r) g)
+and_then_assoc (Ok y) f g = refl
+and_then_assoc (Err y) f g = refl

@@ -1,20 +1,17 @@
 -- One token tells how to go on in the small grammar.
 use Rattle.std.proofs.Common.{◌∙◌, le_refl, false, ◌≡◌, ℕ, suc, ◌≤◌, ◌<◌, max, true, ◌&&◌, List, [], ◌∷◌, Option, Some, None, inl, inr, refl, sym, ap, subst, arith, true≢false}
 use Rattle.std.specs.Prelude.{nat_eq}
-use Rattle.grammar.specs.Forms.{deepest}
-use Rattle.grammar.specs.Rules.{deep_if, tree, marked, El, named}
+use Rattle.grammar.specs.Rules.{deep_if, tree, marked, El, token, named}
 use Rattle.grammar.specs.Checks.{Included, nullable, first, continues, GoesOn, Checks, Guarded, Predictive}
 use Rattle.grammar.specs.Spelling.{Spells, Derives}
 use Rattle.grammar.specs.Productive.{Productive, NoDeadEnds}
 use Rattle.grammar.proofs.Lists.{if_false, if_true, or_split, or_left, or_right, and_split, and_both}
 use Rattle.grammar.proofs.Classes.{by_class}
-use Rattle.grammar.specs.Statements.{is_new, Tree, word, words, not_, equal, when, either, loop, depth, Token, name, if_, else_, until, different, comma, open_, close, open_list, close_list, open_fields, close_fields, code, number, numbers, one, Name, stmt, expr, fields, sort, next_fields, some_fields, word_list, prim, compared, plain, branches, is_none, is_closed, then_part, parts, branched, conditional, looped, production, begins, statement_goes_on, goes_on, table}
+use Rattle.grammar.proofs.Depths.{deepest_flat}
+use Rattle.grammar.proofs.CommonChecks.{behind_checks, between_checks, separated_checks}
+use Rattle.grammar.specs.CommonRules.{class, behind, separated}
+use Rattle.grammar.specs.Statements.{is_new, Tree, word, words, not_, equal, when, either, loop, depth, Token, name, if_, else_, until, different, comma, open_, close, open_list, close_list, open_fields, close_fields, code, number, numbers, Name, stmt, expr, fields, sort, next_fields, some_fields, word_list, prim, compared, plain, branches, is_none, is_closed, then_part, parts, branched, conditional, looped, production, begins, statement_goes_on, goes_on, table}
 use Rattle.grammar.specs.Statements as small
-
--- tokens have no nodes
-flat : (ts : List Token) → deepest (λ t. 0) ts ≡ 0
-flat [] = refl
-flat (t ∷ ts) = omega (arith, flat ts)
 
 some_level : (a : Tree) → 1 ≤ depth a
 some_level (word n) = omega arith
@@ -26,26 +23,21 @@ some_level (either a b c) = omega arith
 some_level (loop a b) = omega arith
 
 c_next : (seen : List ℕ) → Checks table (next_fields seen)
-c_next seen = (refl, refl, (λ x. omega arith, (refl, tt, tt)), tt)
+c_next seen = (refl, refl, behind_checks table (named (fields seen)) tt (class 5), tt)
 
 c_fields : (seen : List ℕ) → Checks table (some_fields seen)
 c_fields seen = (λ x. omega arith, (refl, tt, λ t. (refl, refl, λ h. refl, c_next (number t ∷ seen))))
 
-c_prim : Checks table prim
-c_prim = (
+c_word_list : Checks table word_list
+c_word_list = (
   refl,
   refl,
-  (λ a. refl, tt),
-  (
-    refl,
-    refl,
-    (λ a. omega arith, (refl, tt, (λ a. omega arith, (refl, tt, tt)))),
-    (
-      λ a. omega (arith, flat a),
-      (refl, refl, (λ a. omega arith, (refl, tt, (λ a. omega arith, (refl, (refl, refl, tt), tt)))), (λ a. omega arith, (refl, tt, (λ a. omega arith, (refl, tt, tt))))),
-    ),
-  ),
+  between_checks table (separated (token (class 0)) (class 5)) (separated_checks table (token (class 0)) tt (class 5) refl) (class 8) (class 9) refl,
+  between_checks table (named (fields [])) tt (class 10) (class 11) refl,
 )
+
+c_prim : Checks table prim
+c_prim = (refl, refl, (λ a. refl, tt), (refl, refl, between_checks table (named expr) tt (class 6) (class 7) refl, (λ a. omega (arith, deepest_flat a), c_word_list)))
 
 c_compared : Checks table compared
 c_compared = (refl, refl, refl, refl, λ a b. omega arith, c_prim, (λ x. omega arith, (refl, tt, c_prim)))
@@ -61,10 +53,10 @@ branch_deep c a (Some b) = omega arith
 equal_by : (m n : ℕ) → nat_eq m n ≡ true → m ≡ n
 equal_by m n h = search (arith, h)
 
-clash : (m t : ℕ) → nat_eq 0 m ≡ true → one 2 t ≡ true → statement_goes_on m t ≡ true → ⊥
-clash m t k h g = elim (or_split (one 4 t) (one 2 t && nat_eq 1 m) g) [
+clash : (m t : ℕ) → nat_eq 0 m ≡ true → class 2 t ≡ true → statement_goes_on m t ≡ true → ⊥
+clash m t k h g = elim (or_split (class 4 t) (class 2 t && nat_eq 1 m) g) [
   | inl a ↦ omega (arith, equal_by 2 t h, equal_by 4 t a)
-  | inr a ↦ omega (arith, equal_by 0 m k, equal_by 1 m ((and_split (one 2 t) (nat_eq 1 m) a).1))
+  | inr a ↦ omega (arith, equal_by 0 m k, equal_by 1 m ((and_split (class 2 t) (nat_eq 1 m) a).1))
 ]
 
 -- what goes on behind the last statement in it
@@ -109,16 +101,16 @@ within open_fields = omega arith
 within close_fields = omega arith
 
 open_after : (m t : ℕ) → statement_goes_on m t ≡ true → statement_goes_on 1 t ≡ true
-open_after m t g = elim (or_split (one 4 t) (one 2 t && nat_eq 1 m) g) [
-  | inl a ↦ or_left (one 4 t) _ a
-  | inr a ↦ or_right (one 4 t) _ (and_both (one 2 t) _ ((and_split (one 2 t) (nat_eq 1 m) a).0) refl)
+open_after m t g = elim (or_split (class 4 t) (class 2 t && nat_eq 1 m) g) [
+  | inl a ↦ or_left (class 4 t) _ a
+  | inr a ↦ or_right (class 4 t) _ (and_both (class 2 t) _ ((and_split (class 2 t) (nat_eq 1 m) a).0) refl)
 ]
 
 branched_goes_on : (c a : Tree) (m t : ℕ) (o : Option (Tree × ℕ)) → is_none o ≡ true → statement_goes_on m t ≡ true → statement_goes_on ((branched c a o).1) t ≡ true
 branched_goes_on c a m t None k g = open_after m t g
 branched_goes_on c a m t (Some b) k g = absurd (true≢false (sym k))
 
-last : (n : ℕ) (s : El Token Tree (marked tree)) (t : ℕ) → GoesOn table (small.behind n (named stmt)) s t → statement_goes_on (s.1) t ≡ true
+last : (n : ℕ) (s : El Token Tree (marked tree)) (t : ℕ) → GoesOn table (behind (class n) (named stmt)) s t → statement_goes_on (s.1) t ≡ true
 last n s t (b, e, inl h) = subst (λ z. statement_goes_on (z.1) t ≡ true) (sym e) h
 last n s t (b, e, inr h) = absurd (true≢false (sym h.0))
 
@@ -126,18 +118,18 @@ parts_go_on : (y : El Token Tree branches) (t : ℕ) → GoesOn table parts y t 
 parts_go_on y t (inl g) = branched_goes_on (y.0.0) (y.0.1.0) (y.0.1.1) t (y.1) (ap (λ z. is_none (z.1)) (g.1)) (then_goes_on y t g)
 parts_go_on y t (inr (inl (l, s, e, k, g))) = subst (λ z. statement_goes_on ((branched (z.0.0) (z.0.1.0) (z.1)).1) t ≡ true) (sym e) (last 2 s t g)
 parts_go_on y t (inr (inr (k, h))) =
-    branched_goes_on (y.0.0) (y.0.1.0) 1 t (y.1) ((and_split (nat_eq 0 (y.0.1.1)) (is_none (y.1)) k).1) (or_right (one 4 t) _ (and_both (one 2 t) _ h refl))
+    branched_goes_on (y.0.0) (y.0.1.0) 1 t (y.1) ((and_split (nat_eq 0 (y.0.1.1)) (is_none (y.1)) k).1) (or_right (class 4 t) _ (and_both (class 2 t) _ h refl))
 
 bounded : (k : Name) (a : El Token Tree (sort k)) (t : ℕ) → goes_on k a t ≡ true → small.continues k t ≡ true
-bounded stmt x t g = elim (or_split (one 4 t) (one 2 t && nat_eq 1 x.1) g) [
-  | inl a ↦ or_left (one 4 t) _ a
-  | inr a ↦ or_right (one 4 t) _ ((and_split (one 2 t) (nat_eq 1 x.1) a).0)
+bounded stmt x t g = elim (or_split (class 4 t) (class 2 t && nat_eq 1 x.1) g) [
+  | inl a ↦ or_left (class 4 t) _ a
+  | inr a ↦ or_right (class 4 t) _ ((and_split (class 2 t) (nat_eq 1 x.1) a).0)
 ]
 bounded expr x t g = g
 bounded (fields seen) x t g = g
 
 by_value : (k : Name) (a : El Token Tree (sort k)) (t : ℕ) → t < 12 → GoesOn table (production k) a t → goes_on k a t ≡ true
-by_value stmt x t less (inl (a, e, g)) = or_left (one 4 t) _ (by_class table bounded expr refl a t less g)
+by_value stmt x t less (inl (a, e, g)) = or_left (class 4 t) _ (by_class table bounded expr refl a t less g)
 by_value stmt x t less (inr (inl (inl (y, e, g)))) = subst (λ z. statement_goes_on (z.1) t ≡ true) (sym e) (parts_go_on y t g)
 by_value stmt x t less (inr (inl (inr (inl (y, e, (b, e', inl (inl g))))))) =
     subst (λ z. statement_goes_on (z.1) t ≡ true) (sym e) (subst (λ z. statement_goes_on (z.1.1) t ≡ true) (sym e') g)
@@ -186,7 +178,7 @@ some_names (fields seen) =
     (t ∷ [], t ∷ [], (1, ((t, []), refl, (t ∷ [], [], refl, (t, refl, if_true (is_new seen t) (Some t) None new), inr (refl, refl)))))
 
 p_prim : Productive table prim
-p_prim = ((name 0, refl), (((open_, refl), (tt, (close, refl))), (((open_list, refl), ((name 0, refl), (close_list, refl))), ((open_fields, refl), (tt, (close_fields, refl))))))
+p_prim = ((name 0, refl), (((open_, refl), (tt, (close, refl))), (((open_list, refl), (((name 0, refl), ((comma, refl), (name 0, refl))), (close_list, refl))), ((open_fields, refl), (tt, (close_fields, refl))))))
 
 p_compared : Productive table compared
 p_compared = (p_prim, ((different, refl), p_prim))

@@ -6,5 +6,6 @@ pub mod Checks
 pub mod Readers
 pub mod Reading
 pub mod Productive
+pub mod CommonRules
 pub mod Statements
 pub mod Laws

@@ -1,10 +1,11 @@
 -- A small grammar with a production of each form:
 --   stmt   : expr | "if" expr stmt ["else" stmt] | "until" expr stmt
 --   expr   : prim ("!=" prim)*                            a "not" over an "equal"
---   prim   : word | "(" expr ")" | "[" word* "]" | "{" fields "}"
+--   prim   : word | "(" expr ")" | "[" word ("," word)* "]" | "{" fields "}"
 --   fields : word ("," word)*                             no word twice
 use Rattle.std.specs.Prelude.{ℕ, suc, max, Bool, true, false, ◌&&◌, ◌||◌, nat_eq, if◌then◌else◌, List, [], ◌∷◌, Option, Some, None}
-use Rattle.grammar.specs.Rules.{Sort, leaf, tree, marked, pair, list, optional, El, Rule, token, token_where, absent, sequence, choice, view, node, many, suffixes, suffix, bind, needs, named, Grammar}
+use Rattle.grammar.specs.Rules.{Sort, leaf, tree, marked, pair, list, optional, El, Rule, token, token_where, absent, sequence, choice, view, node, suffixes, suffix, bind, needs, named, Grammar}
+use Rattle.grammar.specs.CommonRules.{class, ◌or◌, behind, between, separated}
 
 pub data Tree : Type 0 where
   word : ℕ → Tree
@@ -60,9 +61,6 @@ abbrev pub numbers : List Token → List ℕ
 numbers [] = []
 numbers (t ∷ r) = number t ∷ numbers r
 
-abbrev pub one : ℕ → ℕ → Bool
-one n k = nat_eq n k
-
 -- The fields after some others have a name of their own.
 pub data Name : Type 0 where
   stmt : Name
@@ -78,13 +76,6 @@ sort (fields seen) = list leaf
 abbrev pub R : Sort → Type 0
 R = Rule Token Tree Name sort
 
--- the part behind a token that only separates, or before one
-abbrev pub behind : {s : Sort} → ℕ → R s → R s
-behind {s} n r = view {s = pair leaf s} (λ x. x.1) (sequence (token (one n)) r)
-
-abbrev pub before : {s : Sort} → R s → ℕ → R s
-before {s} r n = view {s = pair s leaf} (λ x. x.0) (sequence r (token (one n)))
-
 -- ---- fields : word ("," word)*, where the tokens so far are no word that comes
 
 abbrev pub is_new : List ℕ → Token → Bool
@@ -92,23 +83,23 @@ is_new [] t = true
 is_new (n ∷ seen) t = if nat_eq n (number t) then false else is_new seen t
 
 abbrev pub next_fields : List ℕ → R (list leaf)
-next_fields seen = choice (behind 5 (named (fields seen))) (absent [])
+next_fields seen = choice (behind (class 5) (named (fields seen))) (absent [])
 
 abbrev pub some_fields : List ℕ → R (list leaf)
-some_fields seen = view {s = pair leaf (list leaf)} (λ x. x.0 ∷ x.1) (bind (token_where (one 0) (is_new seen)) true (one 5) (one 5) (λ t. next_fields (number t ∷ seen)))
+some_fields seen = view {s = pair leaf (list leaf)} (λ x. x.0 ∷ x.1) (bind (token_where (class 0) (is_new seen)) true (class 5) (class 5) (λ t. next_fields (number t ∷ seen)))
 
--- ---- prim : word | "(" expr ")" | "[" word* "]" | "{" fields "}"
+-- ---- prim : word | "(" expr ")" | "[" word ("," word)* "]" | "{" fields "}"
 
 abbrev pub word_list : R (list leaf)
-word_list = choice (behind 8 (before (many (token (one 0))) 9)) (behind 10 (before (named (fields [])) 11))
+word_list = choice (between (class 8) (separated (token (class 0)) (class 5)) (class 9)) (between (class 10) (named (fields [])) (class 11))
 
 abbrev pub prim : R tree
-prim = choice (node {s = leaf} (λ t. word (number t)) (token (one 0))) (choice (behind 6 (before (named expr) 7)) (node {s = list leaf} (λ ts. words (numbers ts)) word_list))
+prim = choice (node {s = leaf} (λ t. word (number t)) (token (class 0))) (choice (between (class 6) (named expr) (class 7)) (node {s = list leaf} (λ ts. words (numbers ts)) word_list))
 
 -- ---- expr : prim ("!=" prim)*, two levels for each
 
 abbrev pub compared : R tree
-compared = suffixes {r = tree} 2 prim (behind 4 prim) (λ a b. not_ (equal a b))
+compared = suffixes {r = tree} 2 prim (behind (class 4) prim) (λ a b. not_ (equal a b))
 
 -- ---- stmt : expr | "if" expr stmt ["else" stmt] | "until" expr stmt
 
@@ -128,10 +119,10 @@ abbrev pub is_closed : El Token Tree branches → Bool
 is_closed x = nat_eq 0 (x.0.1.1) && is_none (x.1)
 
 abbrev pub then_part : R branches
-then_part = view {s = pair tree (marked tree)} (λ x. (x, None)) (behind 1 (sequence (named expr) (named stmt)))
+then_part = view {s = pair tree (marked tree)} (λ x. (x, None)) (behind (class 1) (sequence (named expr) (named stmt)))
 
 abbrev pub parts : R branches
-parts = suffix {r = marked tree} 0 then_part is_closed (behind 2 (named stmt)) (λ x y. (x.0, Some y))
+parts = suffix {r = marked tree} 0 then_part is_closed (behind (class 2) (named stmt)) (λ x y. (x.0, Some y))
 
 abbrev pub branched : Tree → Tree → Option (Tree × ℕ) → Tree × ℕ
 branched c a None = (when c a, 1)
@@ -142,26 +133,29 @@ conditional = node {s = branches} (λ x. branched (x.0.0) (x.0.1.0) (x.1)) parts
 
 -- both nodes are there as soon as it begins
 abbrev pub looped : R (marked tree)
-looped = needs 2 (node {s = pair tree (marked tree)} (λ x. (loop (x.0) (x.1.0), x.1.1)) (behind 3 (sequence (node {s = tree} not_ (named expr)) (named stmt))))
+looped = needs 2 (node {s = pair tree (marked tree)} (λ x. (loop (x.0) (x.1.0), x.1.1)) (behind (class 3) (sequence (node {s = tree} not_ (named expr)) (named stmt))))
 
 abbrev pub production : (k : Name) → R (sort k)
 production stmt = choice plain (choice conditional looped)
 production expr = compared
 production (fields seen) = some_fields seen
 
+abbrev pub begins_expr : ℕ → Bool
+begins_expr = class 0 or class 6 or class 8 or class 10
+
 abbrev pub begins : Name → ℕ → Bool
-begins stmt n = one 0 n || one 1 n || one 3 n || one 6 n || one 8 n || one 10 n
-begins expr n = one 0 n || one 6 n || one 8 n || one 10 n
-begins (fields seen) n = one 0 n
+begins stmt = class 1 or class 3 or begins_expr
+begins expr = begins_expr
+begins (fields seen) = class 0
 
 abbrev pub continues : Name → ℕ → Bool
-continues stmt n = one 4 n || one 2 n
-continues expr n = one 4 n
-continues (fields seen) n = one 5 n
+continues stmt = class 4 or class 2
+continues expr = class 4
+continues (fields seen) = class 5
 
 -- an "else" goes on with a statement that has the number 1
 abbrev pub statement_goes_on : ℕ → ℕ → Bool
-statement_goes_on m n = one 4 n || (one 2 n && nat_eq 1 m)
+statement_goes_on m n = class 4 n || (class 2 n && nat_eq 1 m)
 
 abbrev pub goes_on : (k : Name) → El Token Tree (sort k) → ℕ → Bool
 goes_on stmt x n = statement_goes_on (x.1) n
