@@ -1,0 +1,11 @@
+pub mod Forms
+pub mod FormReaders
+pub mod Rules
+pub mod Spelling
+pub mod Checks
+pub mod Readers
+pub mod Reading
+pub mod Productive
+pub mod CommonRules
+pub mod Statements
+pub mod Laws
