@@ -1,5 +1,10 @@
 pub mod Tree
 pub mod Text
+pub mod Characters
+pub mod Literals
+pub mod Numerals
+pub mod Signs
+pub mod Reserved
 pub mod Tokens
 pub mod Lexed
 pub mod Spells

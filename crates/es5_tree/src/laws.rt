@@ -1,6 +1,7 @@
 //! Laws of the definitions, each the contract of a function that does nothing.
 
-ghost use Rattle.es5_tree.specs.Laws.{MoreUnits, OneEnd, OutputGrows, SitesDontMatter, LexedOnce, NeverBoth, OnePlace, OneScript, ScriptOrStop, StopsOnce, TextSpells, TokensOrNone, WritesInTurn, HiPrinted, HiSpelled, HiRuns, HelloThrows};
+ghost use Rattle.es5_tree.specs.Signs.{LongestSign, NoSign};
+ghost use Rattle.es5_tree.specs.Laws.{MoreUnits, OneEnd, OutputGrows, SitesDontMatter, LexedOnce, NeverBoth, OnePlace, OneScript, ScriptOrStop, StopsOnce, SlicesAscend, OneEndToken, NumeralsSafe, TextSpells, TokensOrNone, WritesInTurn, HiPrinted, HiSpelled, HiRuns, HelloThrows};
 
 /// Once a run has ended, more units change nothing; so it has one end, and its output only grows.
 pub fn runs()
@@ -14,6 +15,20 @@ pub fn runs()
 pub fn one_list_of_tokens()
     ensures one { TokensOrNone }
     ensures once { LexedOnce }
+{}
+
+/// The slices of the tokens of bytes follow one another, the end token is the last and the only
+/// one, and numerals are at most 2^53-1.
+pub fn tokens_in_order()
+    ensures ascend { SlicesAscend }
+    ensures ended { OneEndToken }
+    ensures safe { NumeralsSafe }
+{}
+
+/// A sign is the longest of the table that begins the bytes there.
+pub fn longest_sign()
+    ensures longest { LongestSign }
+    ensures none { NoSign }
 {}
 
 /// Tokens that end with their one end token spell a script, or have one first token that ends no
