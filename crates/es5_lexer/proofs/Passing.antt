@@ -1,5 +1,5 @@
 -- From the pieces so far to one more.
-use Rattle.std.proofs.Common.{◌≡◌, ℕ, ◌+◌, ◌-◌, ◌≤◌, ◌<◌, List, [], ◌∷◌, ◌++◌, Option, Some, None, take, drop, length, refl, sym, ap, ◌∙◌, subst, arith, length-append, length-drop, append_assoc}
+use Rattle.std.proofs.Common.{◌≡◌, ℕ, ◌+◌, ◌-◌, ◌≤◌, List, [], ◌∷◌, ◌++◌, Option, Some, None, take, drop, length, refl, sym, ap, ◌∙◌, subst, arith, length-append, length-drop, append_assoc}
 use Rattle.std.proofs.lemmas.List.{take_rest, drop-drop, append-nil, take-append-drop, drop_all}
 use Rattle.opal_base.specs.declared.place.Pos.{Pos}
 use Rattle.opal_base.specs.Place.{place_at}
@@ -8,8 +8,8 @@ use Rattle.es5_tree.specs.declared.token.EsTokenKind.{EsTokenKind}
 use Rattle.es5_tree.specs.declared.token.EsTokenKind.TheVariants.{End}
 use Rattle.es5_tree.specs.declared.lexing.Restriction.{Restriction}
 use Rattle.es5_tree.specs.declared.lexing.Restriction.TheVariants.{Free}
-use Rattle.es5_tree.specs.Tokens.{kind_of, StandsAt, StuckAt, after, after_piece, after_all, Piece, Reaches}
-use Rattle.es5_tree.specs.Lexed.{LexesTo, NoTokenPlace, token_at, token_if, tokens_from}
+use Rattle.es5_tree.specs.Tokens.{kind_of, StandsAt, after, after_piece, after_all, Piece, Reaches}
+use Rattle.es5_tree.specs.Lexed.{LexesTo, token_at, token_if, tokens_from}
 use Rattle.es5_lexer.specs.Pieces.{AllowedAt, Progress, token_here}
 use Rattle.es5_lexer.proofs.Steps.{from}
 
@@ -78,18 +78,3 @@ all_lexed bytes at restriction tokens new pos h p l m e =
       lexed = subst (λ r. Reaches Free bytes h.pieces r) (drop_all at bytes m) h.reached;
       same = e ∙ ap (λ ts. ts ++ token_here pos at 0 (Some End)) h.same ∙ ap (λ p. tokens_from bytes 0 h.pieces ++ token_here p at 0 (Some End)) p ∙ ap (λ a. tokens_from bytes 0 h.pieces ++ token_at bytes a 0 End ∷ []) end;
     }
-
--- at a byte where nothing stands
-pub no_token : (bytes : List ℕ) (at : ℕ) (restriction : Restriction) (tokens : List EsToken) (pos : Pos) → Progress bytes at restriction tokens → pos ≡ place_at bytes at → at < length bytes → StuckAt restriction (from bytes at) → NoTokenPlace bytes pos
-no_token bytes at restriction tokens pos h p l s = (
-  at,
-  record {
-    pieces = h.pieces;
-    rest = drop at bytes;
-    reached = h.reached;
-    some = omega (arith, length-drop at bytes);
-    none = subst (λ r. StuckAt r (drop at bytes)) h.restricted (subst (λ b. StuckAt restriction b) (take_rest bytes at) s);
-    place = omega (arith, length-drop at bytes);
-  },
-  p,
-)

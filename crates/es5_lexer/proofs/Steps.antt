@@ -6,19 +6,18 @@ use Rattle.es5_tree.specs.declared.token.EsTokenKind.TheVariants as kind
 use Rattle.es5_tree.specs.declared.token.EsMark.{EsMark}
 use Rattle.es5_tree.specs.declared.lexing.Class.{Class}
 use Rattle.es5_tree.specs.declared.lexing.Restriction.{Restriction}
-use Rattle.es5_tree.specs.declared.lexing.Class.TheVariants.{Blank, Letter, Digit, Quote, Other}
+use Rattle.es5_tree.specs.declared.lexing.Class.TheVariants.{Letter, Digit, Quote, Other}
 use Rattle.es5_tree.specs.declared.sign.Sign.{Sign}
 use Rattle.es5_tree.specs.declared.sign.Sign.TheVariants as sign
 use Rattle.es5_tree.specs.Characters.{is_digit, is_name_part, class_of}
-use Rattle.es5_tree.specs.Literals.{comment_size, NoComment, character, Characters, Unquoted}
+use Rattle.es5_tree.specs.Literals.{character, Characters, Unquoted}
 use Rattle.es5_tree.specs.Numerals.{value, numeral, goes_on}
 use Rattle.es5_tree.specs.Signs.{sign_at}
-use Rattle.es5_tree.specs.Tokens.{Space, Comment, Word, Num, Str, Mark, Stuck, allows, StuckAt}
-use Rattle.es5_tree.proofs.OneCut.{same_cons}
+use Rattle.es5_tree.specs.Tokens.{Word, Num, Str, Mark, Stuck, allows, StuckAt}
 use Rattle.es5_tree.proofs.Signs.{class_at, sign_fits}
 use Rattle.es5_tree.proofs.Cutting.{NoMark, no_character, end_unquoted, next_unquoted, quote_stuck, digit_stuck, digits_go_on, no_numeral, digits_some, not_allowed, other_stuck, word_stands}
 use Rattle.es5_lexer.specs.declared.piece.Piece.{Piece}
-use Rattle.es5_lexer.specs.Pieces.{QuotedOrNot, PieceAt, AllowedAt, PieceOrNot, CommentOrNot}
+use Rattle.es5_lexer.specs.Pieces.{QuotedOrNot, PieceAt, PieceOrNot, CommentOrNot}
 
 -- the bytes from an index on, as a part of a slice
 abbrev pub from : List ℕ → ℕ → List ℕ
@@ -36,10 +35,6 @@ one_more size byte more = ap (λ n. drop n (byte ∷ more)) (add-one size)
 
 -- ---- pieces
 
-pub blank_at : (bytes : List ℕ) → 0 < length bytes → class_of (slice_index bytes 0) ≡ Blank → PieceAt bytes None 1
-blank_at [] l c = absurd (omega (arith, l))
-blank_at (byte ∷ more) l c = record { form = Space; is = refl; stands = (byte, refl, c); some = omega arith; within = omega arith }
-
 pub mark_at : (bytes : List ℕ) (s : Sign) (mark : EsMark) (size : ℕ) → sign_at bytes ≡ Some (s, size) → s ≡ sign.Mark mark → PieceAt bytes (Some (kind.Mark mark)) size
 mark_at bytes s mark size found is =
     let e : sign_at bytes ≡ Some (sign.Mark mark, size) = found ∙ ap (λ k. Some (k, size)) is in
@@ -53,26 +48,6 @@ refused_mark bytes s size found is =
 
 pub no_mark : (bytes : List ℕ) → sign_at bytes ≡ None → NoMark (sign_at bytes)
 no_mark bytes e = subst NoMark (sym e) tt
-
-pub comment_at : (bytes : List ℕ) (size : ℕ) → 0 < length bytes → slice_index bytes 0 ≡ 47 → comment_size (tail bytes) ≡ Some size → size ≤ length (tail bytes) → PieceAt bytes None (size + 1)
-comment_at [] size l c e w = absurd (omega (arith, l))
-comment_at (byte ∷ more) size l c e w = record {
-  form = Comment;
-  is = refl;
-  stands = (more, size, ap (λ b. b ∷ more) c, ap comment_size (sym (tail_is byte more)) ∙ e, one_more size byte more);
-  some = omega arith;
-  within = omega (arith, w, ap length (tail_is byte more));
-}
-
-pub no_slash : (bytes : List ℕ) → 0 < length bytes → (slice_index bytes 0 ≡ 47 → ⊥) → NoComment bytes
-no_slash [] l c more n e s = absurd (omega (arith, l))
-no_slash (byte ∷ bytes) l c more n e s = c (same_cons byte 47 bytes more e).0
-
-pub no_size : (bytes : List ℕ) → 0 < length bytes → comment_size (tail bytes) ≡ None → NoComment bytes
-no_size [] l c more n e s = absurd (omega (arith, l))
-no_size (byte ∷ bytes) l c more n e s =
-    let clash : None ≡ Some n = sym c ∙ ap comment_size (tail_is byte bytes ∙ (same_cons byte 47 bytes more e).1) ∙ s in
-    cc
 
 class_first : (bytes : List ℕ) (class : Class) → 0 < length bytes → class_of (slice_index bytes 0) ≡ class → class_at bytes ≡ class
 class_first [] class l c = absurd (omega (arith, l))
@@ -192,17 +167,5 @@ too_large (digit ∷ digits) high whole l e h =
 
 -- ---- what may come
 
-pub allowed_at : (restriction : Restriction) (bytes : List ℕ) (piece : Piece) → PieceAt bytes piece.kind piece.size → true ≡ allows restriction piece.kind → AllowedAt restriction bytes piece.kind piece.size
-allowed_at restriction bytes piece h e = record {
-  form = h.form;
-  is = h.is;
-  stands = record { stands = h.stands; allowed = ap (allows restriction) (sym h.is) ∙ sym e };
-  some = h.some;
-  within = h.within;
-}
-
 pub not_allowed_at : (restriction : Restriction) (bytes : List ℕ) (piece : Piece) → PieceAt bytes piece.kind piece.size → false ≡ allows restriction piece.kind → StuckAt restriction bytes
 not_allowed_at restriction bytes piece h e = not_allowed restriction bytes h.form _ h.stands (ap (allows restriction) (sym h.is) ∙ sym e)
-
-pub stuck_at : (restriction : Restriction) (bytes : List ℕ) → Stuck bytes → StuckAt restriction bytes
-stuck_at restriction bytes h form behind at = h form behind at.stands

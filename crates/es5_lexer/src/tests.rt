@@ -1,5 +1,6 @@
 use super::*;
-use es5_tree::{EsStop, EsTokenKind};
+use es5_tree::{EsStop, EsTokenKind, is_reserved};
+use opal_base::Units;
 use std::alloc::{AllocError, Global};
 
 /// Names and texts of ASCII characters.
@@ -166,5 +167,39 @@ fn literals_and_comments(rt: HostRuntime) {
             Ok(shown) => assert_eq!(rt; shown.as_str(), want),
             Err(_) => panic!(rt; "no memory"),
         }
+    }
+}
+
+/// Whether the name is a reserved word; true where no memory is found.
+fn reserved(alloc: Global, name: &str) -> bool {
+    let mut units = Units::new(alloc);
+    for byte in name.bytes() {
+        if units.push(u16::from(byte)).is_err() {
+            return true;
+        }
+    }
+    is_reserved(&units)
+}
+
+#[test]
+fn reserved_words(rt: HostRuntime) {
+    let cases = [
+        ("break", true),
+        ("typeof", true),
+        ("enum", true),
+        ("let", true),
+        ("yield", true),
+        ("null", true),
+        ("false", true),
+        ("", false),
+        ("eval", false),
+        ("arguments", false),
+        ("undefined", false),
+        ("Break", false),
+        ("brea", false),
+        ("breaks", false),
+    ];
+    for (name, want) in cases {
+        assert_eq!(rt; reserved(rt.alloc(), name), want, "at {name}");
     }
 }

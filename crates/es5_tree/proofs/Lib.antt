@@ -11,6 +11,7 @@ pub mod Fronts
 pub mod Deciding
 pub mod Placed
 pub mod Slices
+pub mod Written
 pub mod Escapes
 pub mod Folds
 pub mod Printing

@@ -10,11 +10,11 @@ use Rattle.es5_tree.specs.declared.lexing.Class.TheVariants.{Blank, Letter, Digi
 use Rattle.es5_tree.specs.Characters.{class_of}
 use Rattle.es5_tree.specs.Signs.{first_of, signs, sign_at, IsEntry, LongestSign, NoSign}
 
-and_left : (a b : Bool) → (a && b) ≡ true → a ≡ true
+pub and_left : (a b : Bool) → (a && b) ≡ true → a ≡ true
 and_left true b h = refl
 and_left false b h = h
 
-and_right : (a b : Bool) → (a && b) ≡ true → b ≡ true
+pub and_right : (a b : Bool) → (a && b) ≡ true → b ≡ true
 and_right true b h = h
 and_right false b h = cc
 

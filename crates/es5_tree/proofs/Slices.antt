@@ -32,8 +32,8 @@ slices_ascend_is bytes tokens h = subst (Ascends 0) (sym h.same) (ascend_from h.
 
 -- ---- numerals
 
-below : (n : ℕ) → nat_lt 9007199254740991 n ≡ false → n < 2 ^ 53
-below n e = grind (arith, common_steps)
+pub below_safe : (n : ℕ) → nat_lt 9007199254740991 n ≡ false → n < 2 ^ 53
+below_safe n e = grind (arith, common_steps)
 
 bounded : (a b : Bool) (n found : ℕ) → (b ≡ false → n < 2 ^ 53) → cond (a || b) None (Some n) ≡ Some found → found < 2 ^ 53
 bounded true b n found h e = cc
@@ -42,7 +42,7 @@ bounded false false n found h e = let same : n ≡ found = cc in omega (arith, h
 
 numeral_safe : (digits : List ℕ) (found : ℕ) → numeral digits ≡ Some found → found < 2 ^ 53
 unfolding numeral
-numeral_safe digits found e = bounded (is_no_numeral digits) (nat_lt 9007199254740991 (value 0 digits)) (value 0 digits) found (below (value 0 digits)) e
+numeral_safe digits found e = bounded (is_no_numeral digits) (nat_lt 9007199254740991 (value 0 digits)) (value 0 digits) found (below_safe (value 0 digits)) e
 
 kind_safe : (form : Form) (bytes rest : List ℕ) → Stands form bytes rest → (k : EsTokenKind) → kind_of form ≡ Some k → IsSafeKind k
 kind_safe (Num found) bytes rest h k e = subst IsSafeKind {x = token.Num found} {y = k} (let same : token.Num found ≡ k = cc in same) (numeral_safe _ found h.0)

@@ -1,5 +1,5 @@
 -- Bytes by what they may begin (ECMA-262 5.1, 7.2, 7.3 and 7.6).
-use Rattle.std.specs.Prelude.{ℕ, ◌==◌, ◌&&◌, ◌||◌, nat_le, Bool, if◌then◌else◌}
+use Rattle.std.specs.Prelude.{ℕ, ◌==◌, ◌&&◌, ◌||◌, nat_le, Bool, false, if◌then◌else◌, List, [], ◌∷◌}
 use Rattle.es5_tree.specs.declared.lexing.Class.{Class}
 use Rattle.es5_tree.specs.declared.lexing.Class.TheVariants.{Blank, Letter, Digit, Quote, Other}
 
@@ -23,6 +23,11 @@ is_name_part byte = is_letter byte || is_digit byte
 
 abbrev pub is_quote : ℕ → Bool
 is_quote byte = (byte == 34) || (byte == 39)
+
+-- the first byte passes the test
+abbrev pub begins : (ℕ → Bool) → List ℕ → Bool
+begins test [] = false
+begins test (byte ∷ bytes) = test byte
 
 -- what a byte may begin
 abbrev pub class_of : ℕ → Class

@@ -7,6 +7,7 @@ pub mod Signs
 pub mod Reserved
 pub mod Tokens
 pub mod Lexed
+pub mod Written
 pub mod Spells
 pub mod Reading
 pub mod State

@@ -1,7 +1,7 @@
 -- Comments and string literals (ECMA-262 5.1, 7.4 and 7.8.4), of ASCII characters alone.
-use Rattle.std.specs.Prelude.{◌≡◌, ℕ, zero, suc, ◌+◌, ◌-◌, ◌*◌, ◌==◌, ◌&&◌, ◌||◌, nat_le, nat_lt, Bool, false, if◌then◌else◌, List, [], ◌∷◌, drop, Option, None, Some}
+use Rattle.std.specs.Prelude.{◌≡◌, ℕ, zero, suc, ◌+◌, ◌-◌, ◌*◌, ◌==◌, ◌&&◌, ◌||◌, nat_le, nat_lt, Bool, if◌then◌else◌, List, [], ◌∷◌, drop, Option, None, Some}
 use Rattle.std.specs.Option.{option_map, option_and_then}
-use Rattle.es5_tree.specs.Characters.{ends_line, is_digit}
+use Rattle.es5_tree.specs.Characters.{ends_line, is_digit, begins}
 
 -- ---- comments (7.4)
 
@@ -9,8 +9,7 @@ abbrev pub is_star : ℕ → Bool
 is_star byte = byte == 42
 
 abbrev pub begins_with_slash : List ℕ → Bool
-begins_with_slash [] = false
-begins_with_slash (byte ∷ bytes) = byte == 47
+begins_with_slash = begins (λ byte. byte == 47)
 
 -- Where the line is over, before its terminator or at the end; n bytes are counted already.
 abbrev pub line_end : ℕ → List ℕ → Option ℕ
@@ -63,8 +62,7 @@ single_escape byte =
     else (if (byte == 92) || (byte == 39) || (byte == 34) then Some byte else None))))))
 
 abbrev pub begins_with_digit : List ℕ → Bool
-begins_with_digit [] = false
-begins_with_digit (byte ∷ bytes) = is_digit byte
+begins_with_digit = begins is_digit
 
 -- the unit of an escape, and how many bytes spell it with its backslash
 abbrev pub escape : List ℕ → Option (ℕ × ℕ)

@@ -1,6 +1,6 @@
 -- Decimal numerals (ECMA-262 5.1, 7.8.3), whole ones up to 2^53-1.
 use Rattle.std.specs.Prelude.{ℕ, ◌+◌, ◌-◌, ◌*◌, ◌==◌, ◌||◌, nat_lt, Bool, true, false, if◌then◌else◌, List, [], ◌∷◌, Option, Some, None}
-use Rattle.es5_tree.specs.Characters.{is_letter}
+use Rattle.es5_tree.specs.Characters.{is_letter, begins}
 
 -- the value of digits behind those of value `high`
 abbrev pub value : ℕ → List ℕ → ℕ
@@ -19,5 +19,4 @@ numeral digits = if is_no_numeral digits || nat_lt 9007199254740991 (value 0 dig
 
 -- a letter, `$`, `_` or a point: none of them stands directly behind a numeral
 abbrev pub goes_on : List ℕ → Bool
-goes_on [] = false
-goes_on (byte ∷ bytes) = is_letter byte || (byte == 46)
+goes_on = begins (λ byte. is_letter byte || (byte == 46))

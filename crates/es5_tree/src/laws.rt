@@ -1,6 +1,7 @@
 //! Laws of the definitions, each the contract of a function that does nothing.
 
 ghost use Rattle.es5_tree.specs.Signs.{LongestSign, NoSign};
+ghost use Rattle.es5_tree.specs.Written.{DigitsRead, DigitsWritten, NumberStands, WordStands, TextStands};
 ghost use Rattle.es5_tree.specs.Laws.{MoreUnits, OneEnd, OutputGrows, SitesDontMatter, LexedOnce, NeverBoth, OnePlace, OneScript, ScriptOrStop, StopsOnce, SlicesAscend, OneEndToken, NumeralsSafe, TextSpells, TokensOrNone, WritesInTurn, HiPrinted, HiSpelled, HiRuns, HelloThrows};
 
 /// Once a run has ended, more units change nothing; so it has one end, and its output only grows.
@@ -29,6 +30,19 @@ pub fn tokens_in_order()
 pub fn longest_sign()
     ensures longest { LongestSign }
     ensures none { NoSign }
+{}
+
+/// A run of digits is a numeral exactly where it is what `{}` writes of a number up to 2^53-1.
+pub fn decimal_numerals()
+    ensures read { DigitsRead }
+    ensures written { DigitsWritten }
+{}
+
+/// A number, a name and a text as a writer spells them are each one token, which is read back.
+pub fn written_tokens()
+    ensures number { NumberStands }
+    ensures word { WordStands }
+    ensures text { TextStands }
 {}
 
 /// Tokens that end with their one end token spell a script, or have one first token that ends no

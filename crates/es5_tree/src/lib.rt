@@ -5,15 +5,13 @@ mod laws;
 mod lexing;
 mod reserved;
 mod sign;
-#[cfg(test)]
-mod tests;
 mod token;
 mod tree;
 mod word;
 
 pub use laws::{
-    longest_sign, one_list_of_tokens, one_place, one_script, one_stop, runs, sites_dont_matter,
-    small_scripts, text_spells, tokens_in_order, writes_in_turn,
+    decimal_numerals, longest_sign, one_list_of_tokens, one_place, one_script, one_stop, runs,
+    sites_dont_matter, small_scripts, text_spells, tokens_in_order, writes_in_turn, written_tokens,
 };
 pub use lexing::{Class, Restriction};
 pub use reserved::is_reserved;
