@@ -1,12 +1,27 @@
 -- What stands at the front, and one step of the loop over the characters of a literal.
-use Rattle.std.proofs.Common.{◌≡◌, ℕ, ◌+◌, ◌-◌, ◌<◌, ◌≤◌, List, [], ◌∷◌, ◌++◌, Some, None, take, drop, length, get_or, slice_index, take_while, refl, sym, ap, ◌∙◌, subst, arith, add-one, drop-cons, append_assoc}
+use Rattle.std.proofs.Common.{◌≡◌, ℕ, ◌+◌, ◌-◌, ◌*◌, nat_lt, lt-ltb, ◌<◌, ◌≤◌, cond, List, [], ◌∷◌, ◌++◌, Option, Some, None, true, false, take, drop, length, get_or, slice_index, take_while, refl, sym, ap, ◌∙◌, subst, arith, add-one, drop-cons, append_assoc}
 use Rattle.std.specs.List.{prefix_len}
-use Rattle.std.proofs.lemmas.List.{take_rest, drop-drop, append-nil, drop_all}
+use Rattle.std.proofs.lemmas.List.{take_rest, drop-drop, append-nil, drop_all, take-append-drop, length-take-le}
 use Rattle.es5_tree.specs.declared.token.EsTokenKind.TheVariants as kind
 use Rattle.es5_tree.specs.declared.token.EsMark.{EsMark}
-use Rattle.es5_tree.specs.Tokens.{Letter, Quote, Slash, Punctuator, is_name_part, class_of, comment_size, character, Characters, Comment, Word, Str, Mark}
-use Rattle.es5_tree.proofs.Cutting.{no_character, end_unquoted, next_unquoted, quote_stuck, slash_stuck, word_stands}
-use Rattle.es5_lexer.specs.Pieces.{Unquoted, QuotedOrNot, Stuck, PieceAt}
+use Rattle.es5_tree.specs.declared.lexing.Class.{Class}
+use Rattle.es5_tree.specs.declared.lexing.Restriction.{Restriction}
+use Rattle.es5_tree.specs.declared.lexing.Class.TheVariants.{Letter, Digit, Quote, Other}
+use Rattle.es5_tree.specs.declared.sign.Sign.{Sign}
+use Rattle.es5_tree.specs.declared.sign.Sign.TheVariants as sign
+use Rattle.es5_tree.specs.Characters.{is_digit, is_name_part, class_of}
+use Rattle.es5_tree.specs.Literals.{character, Characters, Unquoted}
+use Rattle.es5_tree.specs.Numerals.{value, numeral, goes_on}
+use Rattle.es5_tree.specs.Signs.{sign_at}
+use Rattle.es5_tree.specs.Tokens.{Word, Num, Str, Mark, Stuck, allows, StuckAt}
+use Rattle.es5_tree.proofs.Signs.{class_at, sign_fits}
+use Rattle.es5_tree.proofs.Cutting.{NoMark, no_character, end_unquoted, next_unquoted, quote_stuck, digit_stuck, digits_go_on, no_numeral, digits_some, not_allowed, other_stuck, word_stands}
+use Rattle.es5_lexer.specs.declared.piece.Piece.{Piece}
+use Rattle.es5_lexer.specs.Pieces.{QuotedOrNot, PieceAt, PieceOrNot, CommentOrNot}
+
+-- the bytes from an index on, as a part of a slice
+abbrev pub from : List ℕ → ℕ → List ℕ
+from bytes end = take (length bytes - end) (drop end bytes)
 
 -- all but the first byte, as a part of a slice
 abbrev pub tail : List ℕ → List ℕ
@@ -20,23 +35,55 @@ one_more size byte more = ap (λ n. drop n (byte ∷ more)) (add-one size)
 
 -- ---- pieces
 
-pub mark_at : (bytes : List ℕ) (mark : EsMark) → 0 < length bytes → class_of (slice_index bytes 0) ≡ Punctuator mark → PieceAt bytes (Some (kind.Mark mark)) 1
-mark_at [] mark l c = absurd (omega (arith, l))
-mark_at (byte ∷ more) mark l c = record { form = Mark mark; is = refl; stands = (byte, refl, c); some = omega arith; within = omega arith }
+pub mark_at : (bytes : List ℕ) (s : Sign) (mark : EsMark) (size : ℕ) → sign_at bytes ≡ Some (s, size) → s ≡ sign.Mark mark → PieceAt bytes (Some (kind.Mark mark)) size
+mark_at bytes s mark size found is =
+    let e : sign_at bytes ≡ Some (sign.Mark mark, size) = found ∙ ap (λ k. Some (k, size)) is in
+    let fits = sign_fits bytes (sign.Mark mark) size e in
+    record { form = Mark mark; is = refl; stands = (size, e, refl); some = fits.0; within = fits.1 }
 
-pub comment_at : (bytes : List ℕ) (size : ℕ) → 0 < length bytes → class_of (slice_index bytes 0) ≡ Slash → comment_size (tail bytes) ≡ Some size → size ≤ length (tail bytes) → PieceAt bytes None (size + 1)
-comment_at [] size l c e w = absurd (omega (arith, l))
-comment_at (byte ∷ more) size l c e w = record {
-  form = Comment;
-  is = refl;
-  stands = (byte, more, size, refl, c, ap comment_size (sym (tail_is byte more)) ∙ e, one_more size byte more);
-  some = omega arith;
-  within = omega (arith, w, ap length (tail_is byte more));
-}
+pub refused_mark : (bytes : List ℕ) (s : Sign) (size : ℕ) → sign_at bytes ≡ Some (s, size) → s ≡ sign.Refused → NoMark (sign_at bytes)
+refused_mark bytes s size found is =
+    let e : sign_at bytes ≡ Some (sign.Refused, size) = found ∙ ap (λ k. Some (k, size)) is in
+    subst NoMark (sym e) tt
 
-pub no_comment : (bytes : List ℕ) → 0 < length bytes → class_of (slice_index bytes 0) ≡ Slash → comment_size (tail bytes) ≡ None → Stuck bytes
-no_comment [] l c e = absurd (omega (arith, l))
-no_comment (byte ∷ more) l c e = slash_stuck byte more c (ap comment_size (sym (tail_is byte more)) ∙ e)
+pub no_mark : (bytes : List ℕ) → sign_at bytes ≡ None → NoMark (sign_at bytes)
+no_mark bytes e = subst NoMark (sym e) tt
+
+class_first : (bytes : List ℕ) (class : Class) → 0 < length bytes → class_of (slice_index bytes 0) ≡ class → class_at bytes ≡ class
+class_first [] class l c = absurd (omega (arith, l))
+class_first (byte ∷ bytes) class l c = c
+
+pub other_at : (bytes : List ℕ) (piece : Option Piece) → 0 < length bytes → class_of (slice_index bytes 0) ≡ Other → NoMark (sign_at bytes) → CommentOrNot bytes piece → PieceOrNot bytes piece
+other_at bytes None l c n h = other_stuck bytes (class_first bytes Other l c) n h
+other_at bytes (Some piece) l c n h = h
+
+-- ---- numerals
+
+pub number_at : (bytes : List ℕ) (size value : ℕ) → size ≡ prefix_len is_digit bytes → size ≤ length bytes → goes_on (from bytes size) ≡ false → numeral (take size bytes) ≡ Some value → PieceAt bytes (Some (kind.Num value)) size
+number_at bytes size value e w g n =
+    let digits : take size bytes ≡ take_while is_digit bytes = ap (λ k. take k bytes) e in
+    record {
+      form = Num value;
+      is = refl;
+      stands = (
+        ap numeral (sym digits) ∙ n,
+        sym (take-append-drop size bytes) ∙ ap (λ d. d ++ drop size bytes) digits,
+        ap goes_on (sym (take_rest bytes size)) ∙ g,
+      );
+      some = positive size (take size bytes) value n (length-take-le size bytes w);
+      within = w;
+    }
+  where
+    positive : (size : ℕ) (digits : List ℕ) (value : ℕ) → numeral digits ≡ Some value → length digits ≡ size → 0 < size
+    positive size digits value n l = omega (arith, l, digits_some digits value n)
+
+pub no_number : (bytes : List ℕ) (size : ℕ) → 0 < length bytes → class_of (slice_index bytes 0) ≡ Digit → size ≡ prefix_len is_digit bytes → numeral (take size bytes) ≡ None → Stuck bytes
+no_number bytes size l c e n = digit_stuck bytes (class_first bytes Digit l c) (no_numeral bytes (ap (λ k. numeral (take k bytes)) (sym e) ∙ n))
+
+pub number_goes_on : (bytes : List ℕ) (size : ℕ) → 0 < length bytes → class_of (slice_index bytes 0) ≡ Digit → size ≡ prefix_len is_digit bytes → goes_on (from bytes size) ≡ true → Stuck bytes
+number_goes_on bytes size l c e g = digit_stuck bytes (class_first bytes Digit l c) (digits_go_on bytes (ap goes_on (ap (λ k. drop k bytes) (sym e) ∙ sym (take_rest bytes size)) ∙ g))
+
+-- ---- words and string literals
 
 pub word_at : (bytes text : List ℕ) (size : ℕ) → 0 < length bytes → class_of (slice_index bytes 0) ≡ Letter → size ≡ prefix_len is_name_part (tail bytes) → size ≤ length (tail bytes) → text ≡ take (size + 1) bytes → PieceAt bytes (Some (kind.Word text)) (size + 1)
 word_at [] text size l c e w t = absurd (omega (arith, l))
@@ -75,10 +122,6 @@ no_string (byte ∷ more) l c h = quote_stuck byte more c (subst (λ b. Unquoted
 
 -- ---- the characters of a literal
 
--- the bytes from an index on, as a part of a slice
-abbrev pub from : List ℕ → ℕ → List ℕ
-from bytes end = take (length bytes - end) (drop end bytes)
-
 next_byte : (bytes : List ℕ) (end : ℕ) → end < length bytes → drop end bytes ≡ get_or bytes end 0 ∷ drop (end + 1) bytes
 next_byte bytes end l = drop-cons bytes end 0 l ∙ ap (λ n. get_or bytes end 0 ∷ drop n bytes) (sym (add-one end))
 
@@ -109,3 +152,20 @@ none_more quote unit size bytes end l n e none =
     subst (Unquoted quote) (sym here)
     (next_unquoted quote (get_or bytes end 0) unit size (drop (end + 1) bytes) n (ap (character quote) (sym (take_rest bytes end ∙ here)) ∙ e)
     (subst (λ b. Unquoted quote (drop size b)) here (subst (Unquoted quote) (sym (drop-drop size end bytes)) none)))
+
+-- ---- the value of digits
+
+pub value_grows : (digits : List ℕ) (high : ℕ) → high ≤ value high digits
+value_grows [] high = omega arith
+value_grows (digit ∷ digits) high = omega (arith, value_grows digits (high * 10 + (digit - 48)))
+
+pub too_large : (rest : List ℕ) (high whole : ℕ) → 1 ≤ length rest → value high rest ≡ whole → 9007199254740991 < high * 10 + (get_or rest 0 0 - 48) → None ≡ cond (nat_lt 9007199254740991 whole) None (Some whole)
+too_large [] high whole l e h = absurd (omega (arith, l))
+too_large (digit ∷ digits) high whole l e h =
+    let test = lt-ltb 9007199254740991 whole (omega (arith, e, h, value_grows digits (high * 10 + (digit - 48)))) in
+    ap (λ b. cond b None (Some whole)) (sym test)
+
+-- ---- what may come
+
+pub not_allowed_at : (restriction : Restriction) (bytes : List ℕ) (piece : Piece) → PieceAt bytes piece.kind piece.size → false ≡ allows restriction piece.kind → StuckAt restriction bytes
+not_allowed_at restriction bytes piece h e = not_allowed restriction bytes h.form _ h.stands (ap (allows restriction) (sym h.is) ∙ sym e)

@@ -1,45 +1,37 @@
-//! What a byte may begin.
+//! What a byte may begin, and runs of bytes.
 
 ghost use Rattle.std.specs.Prelude.{◌≡◌, ◌≤◌, length};
 ghost use Rattle.std.specs.List.{prefix_len};
-ghost use Rattle.es5_tree.specs.Tokens as spec;
-ghost use Rattle.es5_lexer.specs.Pieces.{meant};
+ghost use Rattle.es5_tree.specs.Characters as spec;
 
-use es5_tree::EsMark;
+use es5_tree::Class;
 
-/// What a byte may begin.
-#[derive(Clone, Copy, Debug)]
-pub enum Class {
-    /// White space or a line terminator.
-    Blank,
-    /// A name or a reserved word.
-    Letter,
-    /// A string literal.
-    Quote,
-    /// A comment.
-    Slash,
-    Mark(EsMark),
-    Other,
-}
-
-/// White space and line terminators (7.2, 7.3).
+/// White space and line terminators (ECMA-262 5.1, 7.2 and 7.3).
 fn is_blank(byte: u8) -> bool
     ensures { result ≡ spec.is_blank byte }
 {
-    (9 <= byte && byte <= 13) || byte == 32
+    (b'\t' <= byte && byte <= b'\r') || byte == b' '
 }
 
-fn is_letter(byte: u8) -> bool
+/// Line feed and carriage return (ECMA-262 5.1, 7.3).
+pub fn ends_line(byte: u8) -> bool
+    ensures { result ≡ spec.ends_line byte }
+{
+    byte == b'\n' || byte == b'\r'
+}
+
+/// ASCII letters, `$` and `_`.
+pub fn is_letter(byte: u8) -> bool
     ensures { result ≡ spec.is_letter byte }
 {
-    (97 <= byte && byte <= 122) || (65 <= byte && byte <= 90) || byte == 36 || byte == 95
+    (b'a' <= byte && byte <= b'z') || (b'A' <= byte && byte <= b'Z') || byte == b'$' || byte == b'_'
 }
 
 /// Decimal digits.
 pub fn is_digit(byte: u8) -> bool
     ensures { result ≡ spec.is_digit byte }
 {
-    48 <= byte && byte <= 57
+    b'0' <= byte && byte <= b'9'
 }
 
 fn is_name_part(byte: u8) -> bool
@@ -48,43 +40,41 @@ fn is_name_part(byte: u8) -> bool
     is_letter(byte) || is_digit(byte)
 }
 
-fn mark_of(byte: u8) -> Class
-    ensures { spec.sign_of byte ≡ meant result }
+fn is_quote(byte: u8) -> bool
+    ensures { result ≡ spec.is_quote byte }
 {
-    match byte {
-        b'.' => Class::Mark(EsMark::Dot),
-        b'(' => Class::Mark(EsMark::OpenParen),
-        b')' => Class::Mark(EsMark::CloseParen),
-        b';' => Class::Mark(EsMark::Semicolon),
-        _ => Class::Other,
-    }
+    byte == b'"' || byte == b'\''
 }
 
 /// What a byte may begin.
 pub fn class_of(byte: u8) -> Class
-    ensures { spec.class_of byte ≡ meant result }
+    ensures { result ≡ spec.class_of byte }
 {
     if is_blank(byte) {
         Class::Blank
     } else if is_letter(byte) {
         Class::Letter
-    } else if byte == b'"' || byte == b'\'' {
+    } else if is_digit(byte) {
+        Class::Digit
+    } else if is_quote(byte) {
         Class::Quote
-    } else if byte == b'/' {
-        Class::Slash
     } else {
-        mark_of(byte)
+        Class::Other
     }
 }
 
-/// How many parts of a name stand at the front (7.6).
+/// How many parts of a name stand at the front (ECMA-262 5.1, 7.6).
 pub fn name_size(bytes: &[u8]) -> usize
     ensures value { result ≡ prefix_len spec.is_name_part bytes.now }
     ensures within { result ≤ length bytes.now }
 {
-    let mut size = 0;
-    'parts: while size < bytes.len() && is_name_part(bytes[size]) {
-        size += 1;
-    }
-    size
+    bytes.iter().take_while(|byte| is_name_part(**byte)).count()
+}
+
+/// How many digits stand at the front.
+pub fn digits_size(bytes: &[u8]) -> usize
+    ensures value { result ≡ prefix_len spec.is_digit bytes.now }
+    ensures within { result ≤ length bytes.now }
+{
+    bytes.iter().take_while(|byte| is_digit(**byte)).count()
 }

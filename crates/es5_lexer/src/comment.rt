@@ -1,14 +1,9 @@
-//! Comments (7.4).
+//! Comments (ECMA-262 5.1, 7.4).
 
 ghost use Rattle.std.specs.Prelude.{◌≡◌, ◌≤◌, ◌+◌, length, IfSome};
-ghost use Rattle.es5_tree.specs.Tokens as spec;
+ghost use Rattle.es5_tree.specs.Literals as spec;
 
-/// Line feed and carriage return (7.3).
-fn ends_line(byte: u8) -> bool
-    ensures { result ≡ spec.ends_line byte }
-{
-    byte == 10 || byte == 13
-}
+use crate::class::ends_line;
 
 fn begins_with_slash(bytes: &[u8]) -> bool
     ensures { result ≡ spec.begins_with_slash bytes.now }
@@ -30,7 +25,7 @@ fn line_end(bytes: &[u8]) -> Option<usize>
         if ends_line(*byte) {
             return Some(size);
         }
-        if 127 < *byte {
+        if !byte.is_ascii() {
             return None;
         }
         size += 1;
@@ -50,7 +45,7 @@ fn block_end(bytes: &[u8]) -> Option<usize>
         if *byte == b'*' && begins_with_slash(more) {
             return Some(size + 2);
         }
-        if 127 < *byte {
+        if !byte.is_ascii() {
             return None;
         }
         size += 1;
@@ -61,7 +56,7 @@ fn block_end(bytes: &[u8]) -> Option<usize>
 
 /// How many bytes a comment has behind its first slash; none where it is not whole or has another
 /// character than those of ASCII.
-#[tactic(auto, unfolding(es5_tree::specs::Tokens::comment_size))]
+#[tactic(auto, unfolding(es5_tree::specs::Literals::comment_size))]
 pub fn comment_size(bytes: &[u8]) -> Option<usize>
     ensures value { result ≡ spec.comment_size bytes.now }
     ensures within { IfSome result (λ size. size ≤ length bytes.now) }

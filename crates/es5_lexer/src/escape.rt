@@ -1,20 +1,20 @@
-//! The characters of string literals (7.8.4).
+//! The characters of string literals (ECMA-262 5.1, 7.8.4).
 
 ghost use Rattle.std.specs.Prelude.{◌≡◌, ◌+◌, ◌≤◌, ◌<◌, length, IfSome};
-ghost use Rattle.es5_tree.specs.Tokens as spec;
+ghost use Rattle.es5_tree.specs.Literals as spec;
 
-use crate::class::is_digit;
+use crate::class::{ends_line, is_digit};
 
 fn hex_value(byte: u8) -> Option<u16>
     ensures value { result ≡ spec.hex_value byte }
     ensures small { IfSome result (λ digit. digit < 16) }
 {
     if is_digit(byte) {
-        Some(u16::from(byte) - 48)
-    } else if 97 <= byte && byte <= 102 {
-        Some(u16::from(byte) - 87)
-    } else if 65 <= byte && byte <= 70 {
-        Some(u16::from(byte) - 55)
+        Some(u16::from(byte - b'0'))
+    } else if b'a' <= byte && byte <= b'f' {
+        Some(u16::from(byte - b'a' + 10))
+    } else if b'A' <= byte && byte <= b'F' {
+        Some(u16::from(byte - b'A' + 10))
     } else {
         None
     }
@@ -94,7 +94,7 @@ fn escape(bytes: &[u8]) -> Option<(u16, usize)>
 
 /// The unit of the character at the front of a literal's text, and how many bytes spell it; none
 /// at the closing quote and where no character stands.
-#[tactic(auto, unfolding(es5_tree::specs::Tokens::character))]
+#[tactic(auto, unfolding(es5_tree::specs::Literals::character))]
 pub fn character(quote: u8, bytes: &[u8]) -> Option<(u16, usize)>
     ensures value { result ≡ spec.character quote bytes.now }
     ensures some { IfSome result (λ p. 0 < p.1) }
@@ -105,7 +105,7 @@ pub fn character(quote: u8, bytes: &[u8]) -> Option<(u16, usize)>
     };
     if *byte == b'\\' {
         escape(more)
-    } else if *byte == quote || *byte == 10 || *byte == 13 || 127 < *byte {
+    } else if *byte == quote || ends_line(*byte) || !byte.is_ascii() {
         None
     } else {
         Some((u16::from(*byte), 1))

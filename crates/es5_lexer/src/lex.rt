@@ -2,11 +2,14 @@
 
 ghost use Rattle.std.specs.Prelude.{◌≡◌, ◌+◌, ◌<◌, ◌≤◌, ◌^◌, ◌++◌, length, IfOk, IfErr, OnOk};
 ghost use Rattle.opal_base.specs.Place.{place_at};
-ghost use Rattle.es5_tree.specs.Lexed.{LexesTo, NoTokenPlace, StopsAt};
+ghost use Rattle.std.specs.List.{AllByRecursion};
+ghost use Rattle.es5_tree.specs.Lexed.{Ascends, IsSafe, LexesTo, NoTokenPlace, StopsAt};
+ghost use Rattle.es5_tree.specs.Spells.{IsEnded};
 ghost use Rattle.es5_lexer.specs.Pieces.{token_here};
 
-use crate::piece::next_piece;
-use es5_tree::{EsStop, EsToken, EsTokenKind, EsTokens};
+use crate::piece::next_allowed;
+use crate::restriction::after;
+use es5_tree::{EsStop, EsToken, EsTokenKind, EsTokens, Restriction};
 use opal_base::{NoMemory, Pos};
 use std::alloc::Global;
 
@@ -21,7 +24,7 @@ fn place_from(bytes: &[u8], from: usize, to: usize, mut pos: Pos) -> Pos
     ensures bound { result.line + result.col ≤ to }
 {
     for i in from..to {
-        if bytes[i] == 10 {
+        if bytes[i] == b'\n' {
             pos.line += 1;
             pos.col = 0;
         } else {
@@ -54,23 +57,30 @@ fn emit(
 }
 
 /// The tokens of bytes, with one token for their end behind them; or the place, counted from 0, of
-/// the first byte at which a token, blank or comment would have to begin and none does.
+/// the first byte at which a token, blank or comment would have to begin and none does (ECMA-262
+/// 5.1, section 7, as far as the profile goes).
 pub fn es_lex(alloc: Global, bytes: &[u8]) -> Result<EsTokens, EsStop>
     requires { length bytes.now < 2 ^ 31 }
     ensures tokens { IfOk result (λ tokens. LexesTo bytes.now tokens) }
     ensures few { IfOk result (λ tokens. length tokens ≤ length bytes.now + 1) }
+    ensures ended { IfOk result (λ tokens. IsEnded tokens) }
+    ensures ascend { IfOk result (λ tokens. Ascends 0 tokens) }
+    ensures safe { IfOk result (λ tokens. AllByRecursion IsSafe tokens) }
     ensures not_script { IfErr result (λ stop. StopsAt (NoTokenPlace bytes.now) stop) }
 {
     let mut tokens = EsTokens::new(alloc);
     let mut at = 0;
     let mut pos = Pos { line: 0, col: 0 };
+    let mut restriction = Restriction::Free;
     'pieces: while at < bytes.len() {
-        let Some(piece) = next_piece(alloc, &bytes[at..])? else {
+        let Some(piece) = next_allowed(alloc, restriction, &bytes[at..])? else {
             return Err(EsStop::NotScript { pos });
         };
+        let end = at + piece.size;
+        restriction = after(restriction, &piece.kind, &bytes[at..end]);
         emit(&mut tokens, piece.kind, at, piece.size, pos)?;
-        pos = place_from(bytes, at, at + piece.size, pos);
-        at += piece.size;
+        pos = place_from(bytes, at, end, pos);
+        at = end;
     }
     emit(&mut tokens, Some(EsTokenKind::End), at, 0, pos)?;
     Ok(tokens)

@@ -6,7 +6,10 @@ mod comment;
 mod escape;
 mod lex;
 mod literal;
+mod numeral;
 mod piece;
+mod restriction;
+mod sign;
 #[cfg(test)]
 mod tests;
 

@@ -1,4 +1,4 @@
-//! Texts in quotes (7.8.4).
+//! Texts in quotes (ECMA-262 5.1, 7.8.4).
 
 ghost use Rattle.std.specs.Prelude.{◌≡◌, IfOk};
 ghost use Rattle.es5_lexer.specs.Pieces.{QuotedOrNot};

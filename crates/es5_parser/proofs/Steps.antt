@@ -4,7 +4,7 @@ use Rattle.std.proofs.lemmas.List.{append-nil}
 use Rattle.std.specs.Result.{OnOk, is_err}
 use Rattle.es5_tree.specs.declared.token.EsToken.{EsToken}
 use Rattle.es5_tree.specs.declared.token.EsTokenKind.{EsTokenKind}
-use Rattle.es5_tree.specs.declared.token.EsTokenKind.TheVariants.{Word, Str, Mark, End}
+use Rattle.es5_tree.specs.declared.token.EsTokenKind.TheVariants.{Word, Num, Str, Mark, End}
 use Rattle.es5_tree.specs.declared.token.EsMark.TheVariants.{Dot, OpenParen, CloseParen, Semicolon}
 use Rattle.es5_tree.specs.declared.token.EsStop.{EsStop}
 use Rattle.es5_tree.specs.declared.token.EsStop.TheVariants.{NoMemory, NotScript}
@@ -48,6 +48,7 @@ ready_reads t e = ap (λ k. cond (kind_is End k) (Some Over) (goes (kind_is (Wor
 text_refuses : (k : EsTokenKind) → is_string k ≡ false → (t : EsToken) → t.kind ≡ k → step Text t ≡ None
 text_refuses (Str text) e t f = cc
 text_refuses (Word name) e t f = ap text_goes f
+text_refuses (Num value) e t f = ap text_goes f
 text_refuses (Mark mark) e t f = ap text_goes f
 text_refuses End e t f = ap text_goes f
 

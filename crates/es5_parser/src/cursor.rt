@@ -7,20 +7,20 @@ ghost use Rattle.es5_tree.specs.Spells.{IsEnded, pos_of};
 ghost use Rattle.es5_tree.specs.Reading as spec;
 ghost use Rattle.es5_parser.specs.Ahead.{Passed, PassedText, Refused, is_end, is_string};
 
-use es5_tree::{EsMark, EsStop, EsToken, EsTokenKind};
+use es5_tree::{EsMark, EsStop, EsToken, EsTokenKind, is_word};
 use opal_base::{NoMemory, Pos, Units};
 use std::alloc::Global;
 
-const USE_STRICT: [u16; 10] = [117, 115, 101, 32, 115, 116, 114, 105, 99, 116];
+const USE_STRICT: &[u8] = b"use strict";
 
 /// Bytes of the directive with its quotes.
 const DIRECTIVE_SIZE: u32 = 12;
 
-fn is_word(token: &EsToken, name: &[u16]) -> bool
+fn is_name(token: &EsToken, name: &[u8]) -> bool
     ensures { result ≡ spec.kind_is (kind.Word name.now) token.now.kind }
 {
     match &token.kind {
-        EsTokenKind::Word(found) => name == found.as_slice(),
+        EsTokenKind::Word(found) => is_word(name, found.as_slice()),
         _ => false,
     }
 }
@@ -34,13 +34,13 @@ fn is_mark(token: &EsToken, mark: EsMark) -> bool
     }
 }
 
-/// Whether the token is the directive, without escapes (14.1).
+/// Whether the token is the directive, without escapes (ECMA-262 5.1, 14.1).
 fn is_directive(token: &EsToken) -> bool
     ensures { result ≡ spec.is_directive token.now }
 {
     match &token.kind {
         EsTokenKind::Str(text) => {
-            USE_STRICT.as_slice() == text.as_slice()
+            is_word(USE_STRICT, text.as_slice())
                 && u64::from(token.to) == u64::from(token.from) + u64::from(DIRECTIVE_SIZE)
         }
         _ => false,
@@ -86,12 +86,12 @@ impl<'a> Cursor<'a> {
     }
 
     /// Passes a name.
-    pub fn word(&mut self, name: &[u16]) -> Result<(), EsStop>
+    pub fn word(&mut self, name: &[u8]) -> Result<(), EsStop>
         requires { IsEnded self.old.rest.now }
         ensures passed { IfOk result (λ u. Passed (λ t. spec.kind_is (kind.Word name.now) t.kind) self.old.rest.now self.new.rest.now) }
         ensures refused { IfErr result (λ stop. StopsAt (Refused (λ t. spec.kind_is (kind.Word name.now) t.kind) self.old.rest.now) stop) }
     {
-        if !is_word(&self.rest[0], name) {
+        if !is_name(&self.rest[0], name) {
             return Err(EsStop::NotScript {
                 pos: self.rest[0].pos,
             });

@@ -1,4 +1,4 @@
-//! Statements and scripts (12, 14).
+//! Statements and scripts (ECMA-262 5.1, 12 and 14).
 
 ghost use Rattle.std.specs.Prelude.{◌≡◌, ◌<◌, ◌^◌, [], ◌∷◌, length, false, None, IfOk, IfErr};
 ghost use Rattle.es5_tree.specs.declared.tree.EsKind.TheVariants as form;
@@ -10,23 +10,14 @@ ghost use Rattle.es5_parser.specs.Ahead.{Statement, StopsFrom, is_end};
 
 use crate::cursor::Cursor;
 use es5_lexer::es_lex;
-use es5_tree::{EsExpr, EsKind, EsMark, EsStmt, EsStop, EsTokens, Script};
+use es5_tree::{EsExpr, EsKind, EsMark, EsStmt, EsStop, EsTokens, Script, word_units};
 use opal_base::{NoMemory, Pos, Units};
 use sqlite_items::{Boxed, Items};
 use std::alloc::Global;
 
-const HOST: [u16; 5] = [36, 104, 111, 115, 116];
+const HOST: &[u8] = b"$host";
 
-const WRITE: [u16; 5] = [119, 114, 105, 116, 101];
-
-fn name(alloc: Global, units: &[u16]) -> Result<Units, NoMemory>
-    ensures { IfOk result (λ name. name ≡ units.now) }
-{
-    match Vec::from_slice(alloc, units) {
-        Ok(items) => Ok(Units::from_vec(items)),
-        Err(_) => Err(NoMemory),
-    }
-}
+const WRITE: &[u8] = b"write";
 
 /// An expression at the place of its first token.
 fn expr(alloc: Global, pos: Pos, form: EsKind) -> Result<EsExpr, NoMemory>
@@ -56,13 +47,13 @@ fn call(alloc: Global, pos: Pos, callee: EsExpr, arg: EsExpr) -> Result<EsExpr, 
 fn write_stmt(alloc: Global, host: Pos, literal: Pos, text: Units) -> Result<EsStmt, NoMemory>
     ensures { IfOk result (λ stmt. stmt ≡ write_at host literal text) }
 {
-    let base = expr(alloc, host, EsKind::Name(name(alloc, &HOST)?))?;
-    let callee = expr(alloc, host, EsKind::Member(base, name(alloc, &WRITE)?))?;
+    let base = expr(alloc, host, EsKind::Name(word_units(alloc, HOST)?))?;
+    let callee = expr(alloc, host, EsKind::Member(base, word_units(alloc, WRITE)?))?;
     let arg = expr(alloc, literal, EsKind::Str(text))?;
     Ok(EsStmt::Expr(call(alloc, host, callee, arg)?))
 }
 
-/// An expression statement (12.4): the call of `$host.write` with a string literal.
+/// An expression statement (ECMA-262 5.1, 12.4): the call of `$host.write` with a string literal.
 fn statement(alloc: Global, cursor: &mut Cursor<'_>) -> Result<EsStmt, EsStop>
     requires ended { IsEnded cursor.old.rest.now }
     requires more { is_end cursor.old.rest.now ≡ false }
@@ -70,9 +61,9 @@ fn statement(alloc: Global, cursor: &mut Cursor<'_>) -> Result<EsStmt, EsStop>
     ensures refused { IfErr result (λ stop. StopsAt (StopsFrom spec.Ready cursor.old.rest.now) stop) }
 {
     let host = cursor.pos();
-    cursor.word(&HOST)?;
+    cursor.word(HOST)?;
     cursor.mark(EsMark::Dot)?;
-    cursor.word(&WRITE)?;
+    cursor.word(WRITE)?;
     cursor.mark(EsMark::OpenParen)?;
     let literal = cursor.pos();
     let text = cursor.text()?;

@@ -5,7 +5,7 @@ use Rattle.std.specs.Char.{digit_char}
 use Rattle.std.specs.Option.{option_and_then, option_map}
 use Rattle.std.proofs.lemmas.Bool.{cases_lt, cases_eq, ne_eqb, lt-leb}
 use Rattle.es5_tree.specs.Text.{hex_digits, escaped}
-use Rattle.es5_tree.specs.Tokens.{hex_value, hex_number, character, Characters}
+use Rattle.es5_tree.specs.Literals.{hex_value, hex_number, character, Characters}
 
 -- ---- hexadecimal digits
 

@@ -8,7 +8,7 @@ use Rattle.es5_tree.specs.Lexed.{LexesTo, tokens_from, token_at}
 use Rattle.es5_tree.specs.Spells.{body_kinds, Writes}
 use Rattle.es5_tree.specs.Tree.{writes}
 use Rattle.es5_tree.specs.Laws.{OneScript}
-use Rattle.es5_tree.proofs.Lexing.{lexes_one}
+use Rattle.es5_tree.proofs.OneCut.{lexes_one}
 
 -- bytes have one list of tokens at most
 pub tokens_one : (bytes : List ℕ) (tokens others : List EsToken) → LexesTo bytes tokens → LexesTo bytes others → tokens ≡ others

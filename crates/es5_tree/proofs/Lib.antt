@@ -3,12 +3,15 @@ pub mod Depth
 pub mod Determinism
 pub mod Computing
 pub mod Statements
-pub mod Lexing
+pub mod Signs
+pub mod OneCut
 pub mod Grammar
 pub mod Cutting
 pub mod Fronts
 pub mod Deciding
 pub mod Placed
+pub mod Slices
+pub mod Written
 pub mod Escapes
 pub mod Folds
 pub mod Printing

@@ -12,8 +12,8 @@ use Rattle.es5_tree.specs.declared.tree.EsKind.{EsKind, EsKind-F, roll-EsKind}
 use Rattle.es5_tree.specs.declared.tree.EsKind.TheFolds.{fold-EsKind, fold-roll-EsExpr, fold-roll-EsKind}
 use Rattle.es5_tree.specs.declared.tree.EsKind.TheVariants as kind
 use Rattle.es5_tree.specs.Tree.{expr, expr_at, write, write_at, bare_expr, bare_stmt, bare}
-use Rattle.es5_tree.specs.Tokens.{Form, Space, Comment, Word, Str, Mark, Piece}
-use Rattle.es5_tree.specs.Lexed.{LexesTo, kind_of, token_at, token_if, tokens_from}
+use Rattle.es5_tree.specs.Tokens.{Form, Space, Comment, Word, Num, Str, Mark, kind_of, Piece}
+use Rattle.es5_tree.specs.Lexed.{LexesTo, token_at, token_if, tokens_from}
 use Rattle.es5_tree.specs.Spells.{pos_of, body_of, Spells, EsSpells, IsEnded}
 
 -- ---- bare trees
@@ -70,6 +70,7 @@ kind_not_end : (form : Form) (k : EsTokenKind) → kind_of form ≡ Some k → k
 kind_not_end Space k e f = cc
 kind_not_end Comment k e f = cc
 kind_not_end (Word name) k e f = cc
+kind_not_end (Num value) k e f = cc
 kind_not_end (Str text) k e f = cc
 kind_not_end (Mark mark) k e f = cc
 

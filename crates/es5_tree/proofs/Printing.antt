@@ -3,7 +3,9 @@ use Rattle.std.proofs.Common.{◌≡◌, ℕ, ◌<◌, List, [], ◌∷◌, ◌+
 use Rattle.std.specs.List.{flat_map, AllByRecursion}
 use Rattle.es5_tree.specs.Tree.{writes}
 use Rattle.es5_tree.specs.Text.{escaped, literal, text_of}
-use Rattle.es5_tree.specs.Tokens.{character, Space, Word, Str, Mark, Piece, Lexes}
+use Rattle.es5_tree.specs.Literals.{character}
+use Rattle.es5_tree.specs.Signs.{sign_at}
+use Rattle.es5_tree.specs.Tokens.{Space, Word, Str, Mark, Piece, Lexes}
 use Rattle.es5_tree.specs.declared.token.EsMark.TheVariants.{Dot, OpenParen, CloseParen, Semicolon}
 use Rattle.es5_tree.specs.declared.token.EsTokenKind.TheVariants as kind
 use Rattle.es5_tree.specs.Lexed.{tokens_from, token_at}
@@ -41,37 +43,38 @@ script_pieces texts =
     ∷ body_pieces texts
 
 line_lexes : (text rest : List ℕ) (pieces : List Piece) → AllByRecursion (λ unit. unit < 65536) text → Lexes rest pieces → Lexes (line text rest) (line_pieces text pieces)
+unfolding sign_at
 line_lexes text rest pieces h l =
     let behind = 41 ∷ 59 ∷ 10 ∷ rest in
     let chars = flat_map escaped text ++ 34 ∷ behind in (
       46 ∷ codes "write(\"" ++ chars,
       refl,
-      (36, codes "host.write(\"" ++ chars, refl, refl, refl, refl),
+      record { stands = (36, codes "host.write(\"" ++ chars, refl, refl, refl, refl); allowed = refl },
       (
         codes "write(\"" ++ chars,
         refl,
-        (46, refl, refl),
+        record { stands = (1, refl, refl); allowed = refl },
         (
           40 ∷ 34 ∷ chars,
           refl,
-          (119, codes "rite(\"" ++ chars, refl, refl, refl, refl),
+          record { stands = (119, codes "rite(\"" ++ chars, refl, refl, refl, refl); allowed = refl },
           (
             34 ∷ chars,
             refl,
-            (40, refl, refl),
+            record { stands = (1, refl, refl); allowed = refl },
             (
               behind,
               ap (λ l. 34 ∷ l) (sym (append_assoc (flat_map escaped text) (34 ∷ []) behind)),
-              (34, chars, refl, refl, characters_back text behind h),
+              record { stands = (34, chars, refl, refl, characters_back text behind h); allowed = refl },
               (
                 59 ∷ 10 ∷ rest,
                 refl,
-                (41, refl, refl),
+                record { stands = (1, refl, refl); allowed = refl },
                 (
                   10 ∷ rest,
                   refl,
-                  (59, refl, refl),
-                  (rest, refl, (10, refl, refl), l),
+                  record { stands = (1, refl, refl); allowed = refl },
+                  (rest, refl, record { stands = (10, refl, refl); allowed = refl }, l),
                 ),
               ),
             ),
@@ -85,16 +88,16 @@ body_lexes [] h = refl
 body_lexes (text ∷ texts) h = line_lexes text (lines texts) (body_pieces texts) h.0 (body_lexes texts h.1)
 
 pub script_lexes : (texts : List (List ℕ)) → AllByRecursion (AllByRecursion (λ unit. unit < 65536)) texts → Lexes (codes "\"use strict\";\n" ++ lines texts) (script_pieces texts)
-unfolding character
+unfolding character sign_at
 script_lexes texts h = (
   codes ";\n" ++ lines texts,
   refl,
-  (34, codes "use strict\";\n" ++ lines texts, refl, refl, (1, refl, (1, refl, (1, refl, (1, refl, (1, refl, (1, refl, (1, refl, (1, refl, (1, refl, (1, refl, refl))))))))))),
+  record { stands = (34, codes "use strict\";\n" ++ lines texts, refl, refl, (1, refl, (1, refl, (1, refl, (1, refl, (1, refl, (1, refl, (1, refl, (1, refl, (1, refl, (1, refl, refl))))))))))); allowed = refl },
   (
     10 ∷ lines texts,
     refl,
-    (59, refl, refl),
-    (lines texts, refl, (10, refl, refl), body_lexes texts h),
+    record { stands = (1, refl, refl); allowed = refl },
+    (lines texts, refl, record { stands = (10, refl, refl); allowed = refl }, body_lexes texts h),
   ),
 )
 

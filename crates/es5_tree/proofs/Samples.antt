@@ -4,7 +4,9 @@ use lib.Utf8.{encode}
 use Rattle.opal_base.specs.Shown.{Ended}
 use Rattle.opal_base.specs.Text.{utf8_of}
 use Rattle.opal_base.proofs.Texts.{text_printed_back_is}
-use Rattle.es5_tree.specs.Tokens.{character, Characters, Form, Space, Word, Str, Mark, Piece}
+use Rattle.es5_tree.specs.Literals.{character, Characters}
+use Rattle.es5_tree.specs.Signs.{sign_at}
+use Rattle.es5_tree.specs.Tokens.{Form, Space, Word, Str, Mark, Piece}
 use Rattle.es5_tree.specs.declared.token.EsMark.TheVariants.{Dot, OpenParen, CloseParen, Semicolon}
 use Rattle.es5_tree.specs.declared.token.EsTokenKind.TheVariants as kind
 use Rattle.es5_tree.specs.Lexed.{tokens_from, token_at}
@@ -57,7 +59,7 @@ unfolding character
 hi_escaped = (4, refl, (6, refl, refl))
 
 pub hi_spelled_is : HiSpelled
-unfolding character
+unfolding character sign_at
 hi_spelled_is = record {
   tokens = tokens_from written 0 pieces ++ token_at written (length written) 0 kind.End ∷ [];
   lexed = record {
@@ -65,56 +67,56 @@ hi_spelled_is = record {
     lexed = (
       codes " ; $host . write('\\x68\\u0069') ;",
       refl,
-      (39, _, refl, refl, (1, refl, (1, refl, (1, refl, (1, refl, (1, refl, (1, refl, (1, refl, (1, refl, (1, refl, (1, refl, refl))))))))))),
+      record { stands = (39, _, refl, refl, (1, refl, (1, refl, (1, refl, (1, refl, (1, refl, (1, refl, (1, refl, (1, refl, (1, refl, (1, refl, refl))))))))))); allowed = refl },
       (
         codes "; $host . write('\\x68\\u0069') ;",
         refl,
-        (32, refl, refl),
+        record { stands = (32, refl, refl); allowed = refl },
         (
           codes " $host . write('\\x68\\u0069') ;",
           refl,
-          (59, refl, refl),
+          record { stands = (1, refl, refl); allowed = refl },
           (
             codes "$host . write('\\x68\\u0069') ;",
             refl,
-            (32, refl, refl),
+            record { stands = (32, refl, refl); allowed = refl },
             (
               codes " . write('\\x68\\u0069') ;",
               refl,
-              (36, _, refl, refl, refl, refl),
+              record { stands = (36, _, refl, refl, refl, refl); allowed = refl },
               (
                 codes ". write('\\x68\\u0069') ;",
                 refl,
-                (32, refl, refl),
+                record { stands = (32, refl, refl); allowed = refl },
                 (
                   codes " write('\\x68\\u0069') ;",
                   refl,
-                  (46, refl, refl),
+                  record { stands = (1, refl, refl); allowed = refl },
                   (
                     codes "write('\\x68\\u0069') ;",
                     refl,
-                    (32, refl, refl),
+                    record { stands = (32, refl, refl); allowed = refl },
                     (
                       codes "('\\x68\\u0069') ;",
                       refl,
-                      (119, _, refl, refl, refl, refl),
+                      record { stands = (119, _, refl, refl, refl, refl); allowed = refl },
                       (
                         codes "'\\x68\\u0069') ;",
                         refl,
-                        (40, refl, refl),
+                        record { stands = (1, refl, refl); allowed = refl },
                         (
                           codes ") ;",
                           refl,
-                          (39, codes "\\x68\\u0069') ;", refl, refl, hi_escaped),
+                          record { stands = (39, codes "\\x68\\u0069') ;", refl, refl, hi_escaped); allowed = refl },
                           (
                             codes " ;",
                             refl,
-                            (41, refl, refl),
+                            record { stands = (1, refl, refl); allowed = refl },
                             (
                               codes ";",
                               refl,
-                              (32, refl, refl),
-                              ([], refl, (59, refl, refl), refl),
+                              record { stands = (32, refl, refl); allowed = refl },
+                              ([], refl, record { stands = (1, refl, refl); allowed = refl }, refl),
                             ),
                           ),
                         ),

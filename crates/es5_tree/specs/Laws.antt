@@ -11,7 +11,7 @@ use Rattle.es5_tree.specs.Run.{EsEnd, Finished, Uncaught, Outside, es_run, cells
 use Rattle.es5_tree.specs.Tree.{bare, expr, writes}
 use Rattle.es5_tree.specs.Text.{text_of}
 use Rattle.es5_tree.specs.declared.token.EsToken.{EsToken}
-use Rattle.es5_tree.specs.Lexed.{LexesTo, NoTokenAt}
+use Rattle.es5_tree.specs.Lexed.{LexesTo, Ascends, IsSafe, NoTokenAt}
 use Rattle.es5_tree.specs.Spells.{Spells, Reads, EsSpells, IsEnded, NoFrontAt, IsNotScript}
 
 -- once a run has ended, more units change nothing
@@ -70,6 +70,16 @@ pub record LexedOnce : Type 0 where
   pub tokens : (bytes : List ℕ) (tokens others : List EsToken) → LexesTo bytes tokens → LexesTo bytes others → tokens ≡ others
   pub offset : (bytes : List ℕ) (offset other : ℕ) → NoTokenAt bytes offset → NoTokenAt bytes other → offset ≡ other
   pub apart : (bytes : List ℕ) (tokens : List EsToken) (offset : ℕ) → LexesTo bytes tokens → NoTokenAt bytes offset → ⊥
+
+-- their slices follow one another, the end token is the last and the only one, and numerals are at most 2^53-1
+abbrev pub SlicesAscend : Type 0
+SlicesAscend = (bytes : List ℕ) (tokens : List EsToken) → LexesTo bytes tokens → Ascends 0 tokens
+
+abbrev pub OneEndToken : Type 0
+OneEndToken = (bytes : List ℕ) (tokens : List EsToken) → LexesTo bytes tokens → IsEnded tokens
+
+abbrev pub NumeralsSafe : Type 0
+NumeralsSafe = (bytes : List ℕ) (tokens : List EsToken) → LexesTo bytes tokens → AllByRecursion IsSafe tokens
 
 -- tokens that end with their one end token spell a script, or have a first one that ends no front
 abbrev pub ScriptOrStop : Type 0

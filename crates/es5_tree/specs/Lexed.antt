@@ -1,5 +1,5 @@
 -- The tokens of bytes, and the first byte where none begins (ECMA-262 5.1, section 7).
-use Rattle.std.specs.Prelude.{◌≡◌, ℕ, ◌+◌, ◌<◌, List, [], ◌∷◌, ◌++◌, length, Option, None, Some}
+use Rattle.std.specs.Prelude.{◌≡◌, ℕ, ◌+◌, ◌<◌, ◌≤◌, ◌^◌, List, [], ◌∷◌, ◌++◌, length, Option, None, Some}
 use Rattle.opal_base.specs.Place.{place_at}
 use Rattle.opal_base.specs.declared.place.Pos.{Pos}
 use Rattle.es5_tree.specs.declared.token.EsStop.{EsStop}
@@ -7,15 +7,8 @@ use Rattle.es5_tree.specs.declared.token.EsStop.TheVariants.{NoMemory, NotScript
 use Rattle.es5_tree.specs.declared.token.EsToken.{EsToken}
 use Rattle.es5_tree.specs.declared.token.EsTokenKind.{EsTokenKind}
 use Rattle.es5_tree.specs.declared.token.EsTokenKind.TheVariants as kind
-use Rattle.es5_tree.specs.Tokens.{Form, Space, Comment, Word, Str, Mark, Stands, Piece, Reaches, Lexes}
-
--- blanks and comments are no tokens
-abbrev pub kind_of : Form → Option EsTokenKind
-kind_of Space = None
-kind_of Comment = None
-kind_of (Word name) = Some (kind.Word name)
-kind_of (Str text) = Some (kind.Str text)
-kind_of (Mark mark) = Some (kind.Mark mark)
+use Rattle.es5_tree.specs.declared.lexing.Restriction.TheVariants.{Free}
+use Rattle.es5_tree.specs.Tokens.{kind_of, StuckAt, after_all, Piece, Reaches, Lexes}
 
 -- A token of so many bytes; its place counts lines and columns from 0, and only a line feed ends a line.
 abbrev pub token_at : List ℕ → ℕ → ℕ → EsTokenKind → EsToken
@@ -36,13 +29,26 @@ pub record LexesTo (bytes : List ℕ) (tokens : List EsToken) : Type 0 where
   pub lexed : Lexes bytes pieces
   pub same : tokens ≡ tokens_from bytes 0 pieces ++ token_at bytes (length bytes) 0 kind.End ∷ []
 
+-- the slices follow one another from a byte on
+abbrev pub Ascends : ℕ → List EsToken → Type 0
+Ascends at [] = Unit {0}
+Ascends at (token ∷ tokens) = (at ≤ token.from) × (token.from ≤ token.to) × Ascends token.to tokens
+
+-- a numeral's value is at most 2^53-1
+abbrev pub IsSafeKind : EsTokenKind → Type 0
+IsSafeKind (kind.Num value) = value < 2 ^ 53
+IsSafeKind other = Unit {0}
+
+abbrev pub IsSafe : EsToken → Type 0
+IsSafe token = IsSafeKind token.kind
+
 -- pieces stand up to the byte at the offset, and at that byte none stands
 pub record NoTokenAt (bytes : List ℕ) (offset : ℕ) : Type 0 where
   pub pieces : List Piece
   pub rest : List ℕ
-  pub reached : Reaches bytes pieces rest
+  pub reached : Reaches Free bytes pieces rest
   pub some : 0 < length rest
-  pub none : (form : Form) (behind : List ℕ) → Stands form rest behind → ⊥
+  pub none : StuckAt (after_all Free pieces) rest
   pub place : offset + length rest ≡ length bytes
 
 -- the place of such a byte

@@ -1,7 +1,13 @@
 pub mod Tree
 pub mod Text
+pub mod Characters
+pub mod Literals
+pub mod Numerals
+pub mod Signs
+pub mod Reserved
 pub mod Tokens
 pub mod Lexed
+pub mod Written
 pub mod Spells
 pub mod Reading
 pub mod State

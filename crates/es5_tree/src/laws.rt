@@ -1,6 +1,8 @@
 //! Laws of the definitions, each the contract of a function that does nothing.
 
-ghost use Rattle.es5_tree.specs.Laws.{MoreUnits, OneEnd, OutputGrows, SitesDontMatter, CellsGrow, LexedOnce, NeverBoth, OnePlace, OneRead, OneScript, ReadSpells, ScriptOrStop, StopsOnce, TextSpells, TokensOrNone, WritesInTurn, HiPrinted, HiSpelled, HiRuns, HelloThrows};
+ghost use Rattle.es5_tree.specs.Signs.{LongestSign, NoSign};
+ghost use Rattle.es5_tree.specs.Written.{DigitsRead, DigitsWritten, NumberStands, WordStands, TextStands};
+ghost use Rattle.es5_tree.specs.Laws.{MoreUnits, OneEnd, OutputGrows, SitesDontMatter, CellsGrow, LexedOnce, NeverBoth, OnePlace, OneRead, OneScript, ReadSpells, ScriptOrStop, StopsOnce, SlicesAscend, OneEndToken, NumeralsSafe, TextSpells, TokensOrNone, WritesInTurn, HiPrinted, HiSpelled, HiRuns, HelloThrows};
 
 /// Once a run has ended, more units change nothing; so it has one end, and its output only grows.
 pub fn runs()
@@ -19,6 +21,33 @@ pub fn cells_grow()
 pub fn one_list_of_tokens()
     ensures one { TokensOrNone }
     ensures once { LexedOnce }
+{}
+
+/// The slices of the tokens of bytes follow one another, the end token is the last and the only
+/// one, and numerals are at most 2^53-1.
+pub fn tokens_in_order()
+    ensures ascend { SlicesAscend }
+    ensures ended { OneEndToken }
+    ensures safe { NumeralsSafe }
+{}
+
+/// A sign is the longest of the table that begins the bytes there.
+pub fn longest_sign()
+    ensures longest { LongestSign }
+    ensures none { NoSign }
+{}
+
+/// A run of digits is a numeral exactly where it is what `{}` writes of a number up to 2^53-1.
+pub fn decimal_numerals()
+    ensures read { DigitsRead }
+    ensures written { DigitsWritten }
+{}
+
+/// A number, a name and a text as a writer spells them are each one token, which is read back.
+pub fn written_tokens()
+    ensures number { NumberStands }
+    ensures word { WordStands }
+    ensures text { TextStands }
 {}
 
 /// Tokens that end with their one end token spell a script, or have one first token that ends no

@@ -2,12 +2,21 @@
 #![tactic(auto)]
 
 mod laws;
+mod lexing;
+mod reserved;
+mod sign;
 mod token;
 mod tree;
+mod word;
 
 pub use laws::{
-    cells_grow, one_list_of_tokens, one_place, one_read, one_script, one_stop, runs,
-    sites_dont_matter, small_scripts, text_spells, writes_in_turn,
+    cells_grow, decimal_numerals, longest_sign, one_list_of_tokens, one_place, one_read,
+    one_script, one_stop, runs, sites_dont_matter, small_scripts, text_spells, tokens_in_order,
+    writes_in_turn, written_tokens,
 };
+pub use lexing::{Class, Restriction};
+pub use reserved::is_reserved;
+pub use sign::{SIGNS, Sign};
 pub use token::{EsMark, EsStop, EsToken, EsTokenKind, EsTokens};
 pub use tree::{EsExpr, EsKind, EsStmt, EsStmts, Script};
+pub use word::{is_word, word_units};

@@ -4,7 +4,7 @@ use opal_base::{NoMemory, Pos, Units};
 use std::alloc::Global;
 use std::marker::Model;
 
-/// The signs of scripts (ECMA-262 5.1, section 7.7).
+/// The signs of scripts: the punctuators of ECMA-262 5.1, 7.7 and 7.8.5, as far as the profile goes.
 #[derive(Clone, Copy, Debug, PartialEq, Eq)]
 pub enum EsMark {
     OpenBrace,
@@ -40,6 +40,8 @@ pub enum EsMark {
 pub enum EsTokenKind {
     /// A name or a reserved word.
     Word(Units),
+    /// A numeral, with its value, at most 2^53-1.
+    Num(u64),
     /// A string literal, with the text that it stands for.
     Str(Units),
     Mark(EsMark),

@@ -1,5 +1,5 @@
 use Rattle.std.proofs.Common.{◌≡◌, ◌+◌, length}
-use Rattle.es5_tree.specs.Tokens.{block_end}
+use Rattle.es5_tree.specs.Literals.{block_end}
 use Rattle.es5_lexer.proofs.comment.block_end.Given as goal
 
 abbrev pub invariant-block : goal.invariant-block

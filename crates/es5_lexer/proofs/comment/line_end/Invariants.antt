@@ -1,5 +1,5 @@
 use Rattle.std.proofs.Common.{◌≡◌, ◌+◌, length}
-use Rattle.es5_tree.specs.Tokens.{line_end}
+use Rattle.es5_tree.specs.Literals.{line_end}
 use Rattle.es5_lexer.proofs.comment.line_end.Given as goal
 
 abbrev pub invariant-line : goal.invariant-line

@@ -5,7 +5,7 @@ use Rattle.es5_lexer.proofs.lex.es_lex.Given as goal
 
 abbrev pub invariant-pieces : goal.invariant-pieces
 invariant-pieces l = record {
-  progress : Progress l.bytes l.at l.tokens;
+  progress : Progress l.bytes l.at l.restriction l.tokens;
   place : l.pos ≡ place_at l.bytes l.at;
   bound : l.pos.line + l.pos.col ≤ l.at;
   within : l.at ≤ length l.bytes;

@@ -1,6 +1,6 @@
 use Rattle.std.proofs.Common.{◌++◌, length, length-drop, ap, sym, ◌∙◌, subst, arith}
 use Rattle.std.proofs.lemmas.List.{take_rest}
-use Rattle.es5_tree.specs.Tokens.{Characters}
+use Rattle.es5_tree.specs.Literals.{Characters}
 use Rattle.es5_lexer.proofs.Steps.{quote_closes, no_text_here, no_text_at_end, so_far_more, none_more}
 use Rattle.es5_lexer.proofs.literal.literal.Goals as goal
 

@@ -1,6 +1,5 @@
 use Rattle.std.proofs.Common.{ℕ, ◌≤◌, ◌++◌, ◌-◌, List, length, drop}
-use Rattle.es5_tree.specs.Tokens.{Characters}
-use Rattle.es5_lexer.specs.Pieces.{Unquoted}
+use Rattle.es5_tree.specs.Literals.{Characters, Unquoted}
 use Rattle.es5_lexer.proofs.literal.literal.Given as goal
 
 -- a text from here on is the rest of a text from the start on, and where none is here, none is there

@@ -1,10 +1,6 @@
 use Rattle.std.proofs.lemmas.Result.{IfOk-weaker}
 use Rattle.es5_tree.specs.Spells.{Spells, Reads}
-use Rattle.es5_tree.proofs.Placed.{lexed_ended}
 use Rattle.es5_parser.proofs.parse.read_script.Goals as goal
-
-pub es_parse-requires : goal.es_parse-requires
-es_parse-requires c = lexed_ended c.args.bytes.now c.in_ok-tokens.tokens c.in_ok-tokens.ensures.tokens
 
 pub returns-clause-script : goal.returns-clause-script
 returns-clause-script c =

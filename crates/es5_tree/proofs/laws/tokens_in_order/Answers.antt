@@ -1,0 +1,6 @@
+use Rattle.es5_tree.proofs.Placed.{lexed_ended}
+use Rattle.es5_tree.proofs.Slices.{slices_ascend_is, numerals_safe_is}
+use Rattle.es5_tree.proofs.laws.tokens_in_order.Goals as goal
+
+pub returns : goal.returns
+returns c = record { ascend = slices_ascend_is; ended = lexed_ended; safe = numerals_safe_is }
