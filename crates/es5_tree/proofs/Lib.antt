@@ -14,3 +14,5 @@ pub mod Folds
 pub mod Printing
 pub mod Samples
 pub mod Sites
+pub mod ObjectLinks
+pub mod ObjectProperties
