@@ -1,4 +1,4 @@
-ghost use Rattle.std.specs.Prelude.{◌≡◌, SomeIff};
+ghost use Rattle.std.specs.Prelude.{◌≡◌, pos, SomeIff};
 ghost use Rattle.es5_tree.specs.Objects.Numbers.{IsSafe};
 
 use std::marker::Model;
@@ -34,6 +34,15 @@ impl SafeInt {
             Some(SafeInt { value })
         } else {
             None
+        }
+    }
+
+    /// The number, which is small enough.
+    pub fn from_u32(value: u32) -> SafeInt
+        ensures { result ≡ pos value }
+    {
+        SafeInt {
+            value: i64::from(value),
         }
     }
 
