@@ -1,8 +1,8 @@
 -- The digits of a number and the units that spell them.
-use Rattle.std.proofs.Common.{◌≡◌, ℕ, suc, zero, ◌+◌, ◌-◌, ◌*◌, ◌/◌, ◌%◌, ◌<◌, ◌≤◌, Bool, true, false, ◌&&◌, ◌||◌, eqb, List, [], ◌∷◌, ◌++◌, map, refl, sym, ap, ◌∙◌, arith, bytes_eq, nat_lt, Option, Some, None, if◌then◌else◌, ltb-false, lt-ltb, le-ltb, rules, length, take, drop, get_or}
+use Rattle.std.proofs.Common.{◌≡◌, ℕ, suc, zero, ◌+◌, ◌-◌, ◌*◌, ◌/◌, ◌%◌, ◌<◌, ◌≤◌, Bool, true, false, ◌&&◌, eqb, List, [], ◌∷◌, ◌++◌, map, refl, sym, ap, ◌∙◌, arith, bytes_eq, nat_lt, Some, None, if◌then◌else◌, lt-ltb, le-ltb, length, take, drop, get_or}
 use Rattle.std.proofs.lemmas.List.{take_more, get_or_default}
 use Rattle.std.proofs.Math.Seq.{take-length}
-use Rattle.std.specs.Int.Digits.{digits_of, number_from_digits_after, number_from_digits}
+use Rattle.std.specs.Int.Digits.{digits_of, number_from_digits_after}
 use Rattle.std.proofs.lemmas.Int.Digits.{digits_of_step, number_after_ge}
 use Rattle.es5_objects.proofs.Loops.{at_step, past_end}
 use Rattle.es5_tree.specs.Objects.Names.{decimal, index_of, number_of, index_end}

@@ -3,7 +3,7 @@ use Rattle.std.proofs.Common.{◌≡◌, ℕ, zero, suc, ◌+◌, ◌-◌, ◌<�
 use Rattle.std.specs.List.{list_any}
 use Rattle.std.proofs.lemmas.List.{get_or_default}
 use Rattle.es5_tree.specs.State.{Text, Val, first}
-use Rattle.es5_tree.specs.Objects.Cells.{Cell, Kind, Object, new_cell, own, put, delete, with_length, with_value, is_array_length, whole}
+use Rattle.es5_tree.specs.Objects.Cells.{Cell, Object, new_cell, own, put, delete, with_length, with_value, is_array_length, whole}
 use Rattle.es5_tree.specs.Objects.Links.{cell_at, link_at, first_of_chain, chain, first_own, get, in_chain, Within, LinksWithin, NoCycle, after}
 use Rattle.es5_objects.specs.Heap.{Heap, with_cell}
 use Rattle.es5_tree.proofs.ObjectLinks.{links_push, no_cycle_push, after_none}

@@ -1,7 +1,7 @@
 -- The steps of the loops that list names.
-use Rattle.std.proofs.Common.{◌≡◌, ℕ, ◌+◌, List, [], ◌∷◌, ◌++◌, map, refl, sym, ap, ◌∙◌, Option, Some, None, true, false, append_assoc}
+use Rattle.std.proofs.Common.{◌≡◌, ℕ, List, [], ◌∷◌, ◌++◌, refl, sym, Some, None, true, false, append_assoc}
 use Rattle.es5_tree.specs.State.{Text, Val}
-use Rattle.es5_tree.specs.Objects.Names.{index_of, decimal}
+use Rattle.es5_tree.specs.Objects.Names.{index_of}
 use Rattle.es5_tree.specs.Objects.Cells.{Kind, indices, other_names, is_other_name}
 
 pub indices_here : (p : Text × Val) (ps : List (Text × Val)) (i : ℕ) → index_of p.0 ≡ Some i → indices (p ∷ ps) ≡ i ∷ indices ps

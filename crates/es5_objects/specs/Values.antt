@@ -1,5 +1,5 @@
 -- What the types of this crate stand for.
-use Rattle.std.specs.Prelude.{◌≡◌, Option, Some, None}
+use Rattle.std.specs.Prelude.{Option, Some, None}
 use Rattle.es5_tree.specs.State.{Val}
 use Rattle.es5_tree.specs.State as val
 use Rattle.es5_tree.specs.Objects.Cells.{Kind}

@@ -74,7 +74,7 @@ fn is_in_chain(cells: &[ObjectCell], o: u32, start: Option<u32>) -> bool
     ensures { result ≡ in_chain cells.now o start }
 {
     let mut at = start;
-    for turn in 0..cells.len() {
+    for step in 0..cells.len() {
         match at {
             None => return false,
             Some(here) => {
@@ -192,6 +192,7 @@ impl ObjHeap {
         requires whole_length { CanPut (cell_at self.old.cells o) name (value_of value) }
         ensures ok { OnOk result (self.new ≡ with_cell self.old o (put (cell_at self.old.cells o) name (value_of value))) }
         ensures err { OnErr result (self.new ≡ self.old) }
+        ensures count { length self.new.cells ≡ length self.old.cells }
     {
         let cell = &mut self.cells[o as usize];
         cell.put(name, value)
@@ -203,6 +204,7 @@ impl ObjHeap {
         requires no_length { is_array_length (cell_at self.old.cells o) name.now ≡ false }
         ensures there { result ≡ is_some (own (cell_at self.old.cells o) name.now) }
         ensures after { self.new ≡ with_cell self.old o (delete (cell_at self.old.cells o) name.now) }
+        ensures count { length self.new.cells ≡ length self.old.cells }
     {
         let cell = &mut self.cells[o as usize];
         cell.delete(name)
@@ -225,6 +227,7 @@ impl ObjHeap {
         ensures cycle { is_err result ≡ in_chain self.old.cells o p }
         ensures ok { OnOk result (self.new ≡ with_cell self.old o (with_link (cell_at self.old.cells o) p)) }
         ensures err { OnErr result (self.new ≡ self.old) }
+        ensures count { length self.new.cells ≡ length self.old.cells }
     {
         if is_in_chain(&self.cells, o, p) {
             return Err(Cycle);

@@ -10,6 +10,8 @@ mod kind;
 mod length;
 mod list;
 mod properties;
+#[cfg(test)]
+mod tests;
 mod text;
 mod value;
 

@@ -1,7 +1,5 @@
-use Rattle.std.proofs.Common.{◌≡◌, ◌<◌, ◌∙◌, ◌+◌, ap, sym, length, Some, None}
+use Rattle.std.proofs.Common.{◌∙◌, ap, sym, length, Some, None}
 use Rattle.std.specs.Option.{option_copied}
-use Rattle.es5_tree.specs.Objects.Links.{cell_at}
-use Rattle.es5_tree.specs.Objects.Cells.{Cell, own}
 use Rattle.es5_objects.specs.Values.{value_of, value_if}
 use Rattle.es5_objects.proofs.Heaps.{cell_is, walk_starts, walk_finds, walk_goes_on, walk_ends, walk_over, link_leads}
 use Rattle.es5_objects.proofs.heap.find.Goals as goal

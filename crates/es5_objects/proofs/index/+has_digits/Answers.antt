@@ -1,5 +1,5 @@
 use Rattle.std.proofs.Common.{◌≡◌, ◌+◌, ◌-◌, ◌<◌, ◌/◌, ◌%◌, ◌&&◌, length, get_or, take, false, true, bytes_eq, sym, ap, ◌∙◌, eqb, eq-eqb, ne_eqb, rules, arith}
-use Rattle.es5_objects.proofs.Digits.{units_of, by_last, no_digit}
+use Rattle.es5_objects.proofs.Digits.{units_of, by_last}
 use Rattle.es5_objects.proofs.index.+has_digits.Goals as goal
 
 pub returns-then-from-n : goal.returns-then-from-n

@@ -1,4 +1,4 @@
-use Rattle.std.proofs.Common.{◌≡◌, ◌+◌, ◌%◌, ◌≤◌, ◌∷◌, [], ◌++◌, OnOk, sym, ap, subst, ◌∙◌, append_assoc, ◌/◌}
+use Rattle.std.proofs.Common.{◌≡◌, ◌+◌, ◌%◌, ◌∷◌, [], ◌++◌, OnOk, sym, ap, subst, ◌∙◌, append_assoc, ◌/◌}
 use Rattle.es5_tree.specs.Objects.Names.{decimal}
 use Rattle.es5_objects.proofs.Digits.{decimal_digit, decimal_more}
 use Rattle.es5_objects.proofs.index.+push_decimal.Goals as goal

@@ -1,6 +1,6 @@
-use Rattle.std.proofs.Common.{◌≡◌, ◌<◌, ◌∙◌, sym, ap, lit<, arith, rules, drop, length, get_or, ℕ, ◌+◌, ◌-◌, ◌*◌, ◌≤◌}
-use Rattle.es5_tree.specs.Objects.Names.{number_of, index_end}
-use Rattle.es5_objects.proofs.Digits.{number_after, number_starts, number_step, too_large, small_enough, not_spelled, number_end}
+use Rattle.std.proofs.Common.{◌∙◌, sym, lit<, rules, drop, get_or, ℕ, ◌+◌, ◌-◌, ◌*◌, ◌≤◌}
+use Rattle.es5_tree.specs.Objects.Names.{index_end}
+use Rattle.es5_objects.proofs.Digits.{number_starts, number_step, too_large, small_enough, not_spelled, number_end}
 use Rattle.es5_objects.proofs.index.index_of.Goals as goal
 
 pub loop-unit-init : goal.loop-unit-init

@@ -1,4 +1,4 @@
-use Rattle.std.proofs.Common.{◌≡◌, ◌<◌, sym, ap, ◌∙◌, arith, bytes_eq, nat_eq, length, false, ne_eqb}
+use Rattle.std.proofs.Common.{◌<◌, sym, ap, ◌∙◌, arith, bytes_eq, ne_eqb}
 use Rattle.es5_tree.specs.Objects.Names.{decimal}
 use Rattle.es5_objects.proofs.Digits.{by_one, by_more, decimal_units}
 use Rattle.es5_objects.proofs.index.spells.Goals as goal

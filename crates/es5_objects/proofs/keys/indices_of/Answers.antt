@@ -1,4 +1,4 @@
-use Rattle.std.proofs.Common.{◌≡◌, ◌++◌, ◌+◌, ◌∷◌, [], ◌∙◌, sym, ap, drop, append-nil}
+use Rattle.std.proofs.Common.{◌++◌, ◌+◌, ◌∙◌, sym, ap, drop, append-nil}
 use Rattle.es5_tree.specs.Objects.Cells.{indices}
 use Rattle.es5_objects.specs.Properties.{entry, entries}
 use Rattle.es5_objects.proofs.Loops.{at_step, past_end}

@@ -1,4 +1,4 @@
-use Rattle.std.proofs.Common.{◌≡◌, ◌++◌, ◌+◌, ◌∷◌, [], ◌∙◌, sym, ap, drop, append-nil}
+use Rattle.std.proofs.Common.{◌++◌, ◌+◌, ◌∙◌, sym, ap, drop, append-nil}
 use Rattle.es5_tree.specs.Objects.Cells.{other_names}
 use Rattle.es5_objects.specs.Values.{kind_of}
 use Rattle.es5_objects.specs.Properties.{entry, entries}

@@ -1,4 +1,4 @@
-use Rattle.std.proofs.Common.{◌≡◌, ◌<◌, ◌∙◌, sym, ap, arith, drop, length}
+use Rattle.std.proofs.Common.{◌∙◌, sym, ap}
 use Rattle.es5_tree.specs.State.{find_own}
 use Rattle.es5_objects.specs.Properties.{entry, entries}
 use Rattle.es5_objects.proofs.Loops.{at_step, past_end}

@@ -1,5 +1,5 @@
-use Rattle.std.proofs.Common.{◌≡◌, ◌∙◌, ◌≤◌, ◌<◌, ap, sym, subst, length, arith, is_ok, Option, ℕ}
-use Rattle.es5_tree.specs.Objects.Links.{Within, LinksWithin, NoCycle}
+use Rattle.std.proofs.Common.{◌<◌, ap, sym, subst, length, arith, is_ok}
+use Rattle.es5_tree.specs.Objects.Links.{Within}
 use Rattle.es5_objects.proofs.Heaps.{links_pushed, no_cycle_pushed, length_pushed}
 use Rattle.es5_objects.proofs.heap.ObjHeap.create_as.Goals as goal
 

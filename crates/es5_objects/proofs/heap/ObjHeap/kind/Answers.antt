@@ -1,4 +1,4 @@
-use Rattle.std.proofs.Common.{◌≡◌, ◌<◌, ◌∙◌, ap, sym, length, arith}
+use Rattle.std.proofs.Common.{◌<◌, ◌∙◌, ap, sym, length, arith}
 use Rattle.es5_tree.specs.Objects.Links.{cell_at}
 use Rattle.es5_objects.proofs.Heaps.{cell_is}
 use Rattle.es5_objects.proofs.heap.ObjHeap.kind.Goals as goal

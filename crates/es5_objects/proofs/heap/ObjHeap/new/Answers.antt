@@ -1,4 +1,4 @@
-use Rattle.std.proofs.Common.{◌≡◌, ◌≤◌, ap, sym, subst, length, arith, rules}
+use Rattle.std.proofs.Common.{ap, sym, subst, length, arith, rules}
 use Rattle.es5_tree.specs.Objects.Links.{LinksWithin, NoCycle}
 use Rattle.es5_objects.proofs.Heaps.{no_links, no_loops}
 use Rattle.es5_objects.proofs.heap.ObjHeap.new.Goals as goal

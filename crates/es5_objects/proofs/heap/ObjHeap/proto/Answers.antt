@@ -1,5 +1,5 @@
-use Rattle.std.proofs.Common.{◌≡◌, ◌<◌, ◌∙◌, ap, sym, subst, length, arith}
-use Rattle.es5_tree.specs.Objects.Links.{cell_at, link_at, Within, LinksWithin}
+use Rattle.std.proofs.Common.{◌<◌, ◌∙◌, ap, sym, subst, length, arith}
+use Rattle.es5_tree.specs.Objects.Links.{link_at, Within, LinksWithin}
 use Rattle.es5_objects.proofs.Heaps.{cell_is}
 use Rattle.es5_objects.proofs.heap.ObjHeap.proto.Goals as goal
 

@@ -1,4 +1,4 @@
-use Rattle.std.proofs.Common.{◌≡◌, ◌∙◌, ap, not, bytes_eq, rules, filter}
+use Rattle.std.proofs.Common.{◌∙◌, ap, not, bytes_eq, rules}
 use Rattle.std.proofs.lemmas.Fn.{filter_same}
 use Rattle.es5_tree.specs.Objects.Cells.{without_property}
 use Rattle.es5_objects.proofs.Lists.{deleted}

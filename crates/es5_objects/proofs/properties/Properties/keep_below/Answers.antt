@@ -1,4 +1,4 @@
-use Rattle.std.proofs.Common.{◌≡◌, ◌∙◌, ap, rules, filter}
+use Rattle.std.proofs.Common.{◌∙◌, ap, rules}
 use Rattle.std.proofs.lemmas.Fn.{filter_same}
 use Rattle.es5_tree.specs.Objects.Names.{index_of}
 use Rattle.es5_tree.specs.Objects.Cells.{elements_below, stays_below}

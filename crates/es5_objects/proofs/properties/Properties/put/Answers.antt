@@ -1,4 +1,4 @@
-use Rattle.std.proofs.Common.{◌≡◌, ◌<◌, ◌∙◌, ap, sym, rules, refl, position, length, get_or, None}
+use Rattle.std.proofs.Common.{◌≡◌, ◌∙◌, ap, sym, rules, position, None}
 use Rattle.std.proofs.lemmas.List.Quantifiers.{position-Some}
 use Rattle.es5_tree.specs.Objects.Cells.{with_property}
 use Rattle.es5_objects.specs.Values.{value_of}
