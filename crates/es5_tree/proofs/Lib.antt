@@ -19,3 +19,5 @@ pub mod Samples
 pub mod Sites
 pub mod Cells
 pub mod Read
+pub mod ObjectLinks
+pub mod ObjectProperties

@@ -15,3 +15,4 @@ pub mod Task
 pub mod Eval
 pub mod Run
 pub mod Laws
+pub mod Objects

@@ -3,7 +3,9 @@
 
 mod laws;
 mod lexing;
+mod object_laws;
 mod reserved;
+mod safe_int;
 mod sign;
 mod token;
 mod tree;
@@ -15,7 +17,9 @@ pub use laws::{
     writes_in_turn, written_tokens,
 };
 pub use lexing::{Class, Restriction};
+pub use object_laws::{chains_are_whole, indices_are_spelled, properties_change_apart};
 pub use reserved::is_reserved;
+pub use safe_int::SafeInt;
 pub use sign::{SIGNS, Sign};
 pub use token::{EsMark, EsStop, EsToken, EsTokenKind, EsTokens};
 pub use tree::{EsExpr, EsKind, EsStmt, EsStmts, Script};
