@@ -22,5 +22,6 @@ pub mod Completions
 pub mod Depths
 pub mod CommonChecks
 pub mod Loops
+pub mod OpeningsCounted
 pub mod Turns
 pub mod SmallGrammarMeets

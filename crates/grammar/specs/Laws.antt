@@ -1,9 +1,9 @@
 -- Laws of every grammar in which one token tells how to go on.
-use Rattle.std.specs.Prelude.{◌≡◌, ℕ, ◌≤◌, List, ◌++◌, Ok, Err, ◌⊎◌}
+use Rattle.std.specs.Prelude.{◌≡◌, ℕ, ◌≤◌, Bool, true, false, List, ◌∷◌, ◌++◌, Result, Ok, Err, ◌⊎◌}
 use Rattle.grammar.specs.Rules.{Sort, El, deep, Grammar}
 use Rattle.grammar.specs.Spelling.{Spells, IsFront}
 use Rattle.grammar.specs.Checks.{Predictive}
-use Rattle.grammar.specs.FormReaders.{remaining}
+use Rattle.grammar.specs.FormReaders.{remaining, and_then, next_in, openings, behind_openings, close_all}
 use Rattle.grammar.specs.Readers.{read_named, read_rule}
 use Rattle.grammar.specs.Reading.{SpellsWithin, RefusedAt, read_all}
 use Rattle.grammar.specs.Productive.{NoDeadEnds}
@@ -53,6 +53,15 @@ module _ (T N K : Type 0) where
   pub record TellsFronts : Type 0 where
     pub front : (sorts : K → Sort) (G : Grammar T N K sorts) → Predictive G → (k : K) (b : ℕ) (ts : List T) → remaining (read_named G b k ts) ≡ 0 → IsFront G k b ts
     pub nothing_left : (sorts : K → Sort) (G : Grammar T N K sorts) → Predictive G → (k : K) (b : ℕ) (ts : List T) → IsFront G k b ts → remaining (read_named G b k ts) ≡ 0
+
+-- parentheses that make no node, read without recursion
+abbrev pub WithoutRecursion : (T A B : Type 0) → Type 0
+WithoutRecursion T A B = (opens : T → Bool) (atom primary : List T → Result (A × List T) (List T)) (expression : List T → Result (B × List T) (List T))
+    (resume : A → List T → Result (B × List T) (List T)) (close : B → List T → Result (A × List T) (List T))
+    → ((ts : List T) → expression ts ≡ and_then (primary ts) resume)
+    → ((t : T) (ts : List T) → opens t ≡ true → primary (t ∷ ts) ≡ and_then (expression ts) close)
+    → ((ts : List T) → next_in opens ts ≡ false → primary ts ≡ atom ts)
+    → (ts : List T) → primary ts ≡ and_then (atom (behind_openings opens ts)) (λ a rest. close_all resume close (openings opens ts) a rest)
 
 -- there are such grammars, with a production of each form
 pub record SmallGrammar : Type 0 where

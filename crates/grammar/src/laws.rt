@@ -1,6 +1,6 @@
 //! Laws of grammars, each the contract of a function that does nothing.
 
-ghost use Rattle.grammar.specs.Laws.{OneValue, SomeAnswer, NeverBoth, OnePlace, BeginningsAreFronts, FrontsAreBeginnings, GivesWhatIsSpelled, ReadsWhatIsSpelled, RefusesAtOnce, ReadsByProduction, TellsFronts, SmallGrammar};
+ghost use Rattle.grammar.specs.Laws.{OneValue, SomeAnswer, NeverBoth, OnePlace, BeginningsAreFronts, FrontsAreBeginnings, GivesWhatIsSpelled, ReadsWhatIsSpelled, RefusesAtOnce, ReadsByProduction, TellsFronts, WithoutRecursion, SmallGrammar};
 
 /// Tokens spell one value at most.
 pub fn one_value<T, N, K>()
@@ -32,6 +32,12 @@ pub fn reads_all<T, N, K>()
 pub fn reads_names<T, N, K>()
     ensures by_production { ReadsByProduction T N K }
     ensures tells_fronts { TellsFronts T N K }
+{}
+
+/// Where a primary is an atom or an expression in parentheses, and an expression goes on behind a
+/// primary, the openings may be counted, and closed one after the other behind an atom.
+pub fn parentheses<T, A, B>()
+    ensures { WithoutRecursion T A B }
 {}
 
 /// A small grammar with a production of each form meets what the laws ask.
