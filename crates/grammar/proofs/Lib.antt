@@ -14,6 +14,7 @@ pub mod ReadsRules
 pub mod Heights
 pub mod FrontHeights
 pub mod Stability
+pub mod RuleReads
 pub mod Theorem
 pub mod OneAnswer
 pub mod Outcomes
