@@ -13,15 +13,6 @@ use Rattle.grammar.specs.CommonRules.{class, behind, separated}
 use Rattle.grammar.specs.Statements.{is_new, Tree, word, words, not_, equal, when, either, loop, depth, Token, name, if_, else_, until, different, comma, open_, close, open_list, close_list, open_fields, close_fields, code, number, numbers, Name, stmt, expr, fields, sort, next_fields, some_fields, word_list, prim, compared, plain, branches, is_none, is_closed, then_part, parts, branched, conditional, looped, production, begins, statement_goes_on, goes_on, table}
 use Rattle.grammar.specs.Statements as small
 
-some_level : (a : Tree) → 1 ≤ depth a
-some_level (word n) = omega arith
-some_level (words ns) = omega arith
-some_level (not_ a) = omega arith
-some_level (equal a b) = omega arith
-some_level (when a b) = omega arith
-some_level (either a b c) = omega arith
-some_level (loop a b) = omega arith
-
 c_next : (seen : List ℕ) → Checks table (next_fields seen)
 c_next seen = (refl, refl, behind_checks table (named (fields seen)) tt (class 5), tt)
 
@@ -79,7 +70,7 @@ c_conditional : Checks table conditional
 c_conditional = (λ x. branch_deep (x.0.0) (x.0.1.0) (x.1), c_parts)
 
 c_looped : Checks table looped
-c_looped = (λ x. omega (arith, some_level x.0), (λ x. omega arith, (λ x. omega arith, (refl, tt, (refl, (λ x. omega arith, tt), tt)))))
+c_looped = (inr (inl (λ x. omega arith)), (λ x. omega arith, (λ x. omega arith, (refl, tt, (refl, (λ x. omega arith, tt), tt)))))
 
 c_all : (k : Name) → Checks table (production k)
 c_all stmt = (refl, refl, (λ x. omega arith, c_compared), (refl, refl, c_conditional, c_looped))

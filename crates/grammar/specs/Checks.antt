@@ -1,5 +1,5 @@
 -- What a grammar has to meet so that one token tells how to go on.
-use Rattle.std.specs.Prelude.{◌≡◌, ℕ, zero, suc, ◌+◌, ◌≤◌, ◌<◌, max, Bool, true, false, ◌&&◌, ◌||◌, ◌⊎◌, List, [], ◌∷◌, if◌then◌else◌}
+use Rattle.std.specs.Prelude.{◌≡◌, ℕ, zero, suc, ◌+◌, ◌-◌, ◌≤◌, ◌<◌, max, Bool, true, false, ◌&&◌, ◌||◌, ◌⊎◌, List, [], ◌∷◌, if◌then◌else◌}
 use Rattle.grammar.specs.Rules.{Sort, El, deep, Rule, token, token_where, absent, sequence, choice, view, node, many, suffixes, suffix, starting, bind, needs, named, Grammar}
 
 -- The classes below `n` in the set. What a check asks is that a list of classes is empty, so the goal of a failing one
@@ -81,14 +81,15 @@ module _ {T N K : Type 0} {sorts : K → Sort} (G : Grammar T N K sorts) where
   abbrev pub Included : (ℕ → Bool) → (ℕ → Bool) → Type 0
   Included f g = classes_in (G.size) (λ n. if g n then false else f n) ≡ []
 
-  -- the values that the rule makes have so many levels
-  abbrev pub AtLeast : {s : Sort} → ℕ → Rule T N K sorts s → Type 0
-  AtLeast n (choice r q) = AtLeast n r × AtLeast n q
-  AtLeast {s} n (view {s = s'} f r) = (a : El T N s') → n ≤ deep T G.depth s (f a)
-  AtLeast {s} n (node {s = s'} f r) = (a : El T N s') → n ≤ deep T G.depth s (f a)
-  AtLeast n (starting g r) = AtLeast n r
-  AtLeast n (needs m r) = AtLeast n r
-  AtLeast {s} n r = (a : El T N s) → n ≤ deep T G.depth s a
+  -- what the rule spells has so many levels
+  abbrev pub AtLeast : {s : Sort} → Rule T N K sorts s → ℕ → Type 0
+  AtLeast (sequence r q) n = AtLeast r n ⊎ AtLeast q n
+  AtLeast (choice r q) n = AtLeast r n × AtLeast q n
+  AtLeast (view f r) n = AtLeast r n
+  AtLeast (node f r) n = AtLeast r (n - 1)
+  AtLeast (starting g r) n = AtLeast r n
+  AtLeast (needs m r) n = AtLeast r n
+  AtLeast {s} r n = (a : El T N s) → n ≤ deep T G.depth s a
 
   abbrev pub Checks : {s : Sort} → Rule T N K sorts s → Type 0
   Checks (token f) = Unit {0}
@@ -106,7 +107,7 @@ module _ {T N K : Type 0} {sorts : K → Sort} (G : Grammar T N K sorts) where
   Checks (starting g r) = (nullable r ≡ false) × Checks r
   Checks (bind {s = s} r null begins goes_on q) = Disjoint (continues r) begins × Checks r
       × ((a : El T N s) → Included (first (q a)) begins × Included (continues (q a)) goes_on × (nullable (q a) ≡ true → null ≡ true) × Checks (q a))
-  Checks (needs n r) = AtLeast n r × Checks r
+  Checks (needs n r) = AtLeast r n × Checks r
   Checks (named k) = Unit {0}
 
   -- each name in it stands under a node of it, or behind a token of it
