@@ -16,6 +16,7 @@ pub mod FrontHeights
 pub mod Stability
 pub mod RuleReads
 pub mod Theorem
+pub mod MoreLevels
 pub mod OneAnswer
 pub mod Outcomes
 pub mod FrontTests

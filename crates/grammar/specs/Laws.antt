@@ -33,6 +33,10 @@ module _ (T N K : Type 0) where
   abbrev pub FrontsAreBeginnings : Type 0
   FrontsAreBeginnings = (sorts : K → Sort) (G : Grammar T N K sorts) → Predictive G → NoDeadEnds G → (k : K) (b : ℕ) (u : List T) → IsFront G k b u → (v : List T) × (p : El T N (sorts k)) × Spells G k p (u ++ v)
 
+  -- with more levels there are more fronts
+  abbrev pub MoreFronts : Type 0
+  MoreFronts = (sorts : K → Sort) (G : Grammar T N K sorts) → (k : K) (b more : ℕ) (u : List T) → b ≤ more → IsFront G k b u → IsFront G k more u
+
   -- what the reader gives is spelled within the levels
   abbrev pub GivesWhatIsSpelled : Type 0
   GivesWhatIsSpelled = (sorts : K → Sort) (G : Grammar T N K sorts) → Predictive G → (k : K) (b : ℕ) (ts : List T) (p : El T N (sorts k)) → read_all G k b ts ≡ Ok p → SpellsWithin G k b p ts

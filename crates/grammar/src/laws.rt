@@ -1,6 +1,6 @@
 //! Laws of grammars, each the contract of a function that does nothing.
 
-ghost use Rattle.grammar.specs.Laws.{OneValue, SomeAnswer, NeverBoth, OnePlace, BeginningsAreFronts, FrontsAreBeginnings, GivesWhatIsSpelled, ReadsWhatIsSpelled, RefusesAtOnce, ReadsByProduction, TellsFronts, WithoutRecursion, SmallGrammar};
+ghost use Rattle.grammar.specs.Laws.{OneValue, SomeAnswer, NeverBoth, OnePlace, BeginningsAreFronts, FrontsAreBeginnings, MoreFronts, GivesWhatIsSpelled, ReadsWhatIsSpelled, RefusesAtOnce, ReadsByProduction, TellsFronts, WithoutRecursion, SmallGrammar};
 
 /// Tokens spell one value at most.
 pub fn one_value<T, N, K>()
@@ -14,10 +14,11 @@ pub fn one_answer<T, N, K>()
     ensures one_place { OnePlace T N K }
 {}
 
-/// The fronts are the beginnings of what is spelled.
+/// The fronts are the beginnings of what is spelled, and with more levels there are more.
 pub fn fronts<T, N, K>()
     ensures beginnings { BeginningsAreFronts T N K }
     ensures completions { FrontsAreBeginnings T N K }
+    ensures more { MoreFronts T N K }
 {}
 
 /// The reader gives exactly what is spelled within the levels, and else refuses at the first token
