@@ -31,7 +31,7 @@ c_prim : Checks table prim
 c_prim = (refl, refl, (λ a. refl, tt), (refl, refl, between_checks table (named expr) tt (class 6) (class 7) refl, (λ a. omega (arith, deepest_flat a), c_word_list)))
 
 c_compared : Checks table compared
-c_compared = (refl, refl, refl, refl, λ a b. omega arith, c_prim, (λ x. omega arith, (refl, tt, c_prim)))
+c_compared = (refl, refl, refl, refl, λ a b. omega arith, c_prim, (λ x. omega arith, (refl, tt, (refl, c_prim))))
 
 none_deep : (o : Option (Tree × ℕ)) → is_none o ≡ true → deep_if (λ x. depth x.0) o ≡ 0
 none_deep None k = refl
@@ -172,7 +172,7 @@ p_prim : Productive table prim
 p_prim = ((name 0, refl), (((open_, refl), (tt, (close, refl))), (((open_list, refl), (((name 0, refl), ((comma, refl), (name 0, refl))), (close_list, refl))), ((open_fields, refl), (tt, (close_fields, refl))))))
 
 p_compared : Productive table compared
-p_compared = (p_prim, ((different, refl), p_prim))
+p_compared = (p_prim, ((different, refl), (p_prim, (word 0, name 0 ∷ [], refl, inl (name 0, refl, (name 0, refl, refl))))))
 
 productive : (k : Name) → Productive table (production k)
 productive stmt = (p_compared, ((((if_, refl), (tt, tt)), ((else_, refl), tt)), ((until, refl), (tt, tt))))
