@@ -27,3 +27,4 @@ pub mod Loops
 pub mod OpeningsCounted
 pub mod Turns
 pub mod SmallGrammarMeets
+pub mod SmallLists

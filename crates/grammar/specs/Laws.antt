@@ -1,5 +1,5 @@
 -- Laws of every grammar in which one token tells how to go on.
-use Rattle.std.specs.Prelude.{◌≡◌, ℕ, ◌≤◌, Bool, true, false, List, ◌∷◌, ◌++◌, Result, Ok, Err, ◌⊎◌}
+use Rattle.std.specs.Prelude.{◌≡◌, ℕ, ◌≤◌, Bool, true, false, List, [], ◌∷◌, ◌++◌, Result, Ok, Err, ◌⊎◌}
 use Rattle.grammar.specs.Rules.{Sort, El, deep, Grammar}
 use Rattle.grammar.specs.Spelling.{Spells, IsFront}
 use Rattle.grammar.specs.Checks.{Predictive}
@@ -7,7 +7,7 @@ use Rattle.grammar.specs.FormReaders.{remaining, and_then, next_in, openings, be
 use Rattle.grammar.specs.Readers.{read_named, read_rule}
 use Rattle.grammar.specs.Reading.{SpellsWithin, RefusedAt, read_all}
 use Rattle.grammar.specs.Productive.{NoDeadEnds}
-use Rattle.grammar.specs.Statements.{table}
+use Rattle.grammar.specs.Statements.{table, word, not_, equal, when, either, name, if_, else_, until, different, comma, open_fields, close_fields, stmt}
 
 module _ (T N K : Type 0) where
   -- tokens spell one value at most
@@ -71,3 +71,17 @@ WithoutRecursion T A B = (opens : T → Bool) (atom primary : List T → Result 
 pub record SmallGrammar : Type 0 where
   pub predictive : Predictive table
   pub no_dead_ends : NoDeadEnds table
+
+-- the "else" belongs to the nearest "if" that takes one
+abbrev pub NearestIf : Type 0
+NearestIf = read_all table stmt 9 (if_ ∷ name 1 ∷ if_ ∷ name 2 ∷ name 3 ∷ else_ ∷ name 4 ∷ []) ≡ Ok (when (word 1) (either (word 2) (word 3) (word 4)), 1)
+
+-- the second of two words that are the same is refused
+abbrev pub NoWordTwice : Type 0
+NoWordTwice = read_all table stmt 9 (open_fields ∷ name 1 ∷ comma ∷ name 1 ∷ close_fields ∷ []) ≡ Err 3
+
+-- a sign whose two nodes don't fit is refused, and so is a word that begins two
+pub record Levels : Type 0 where
+  pub enough : read_all table stmt 3 (name 1 ∷ different ∷ name 2 ∷ []) ≡ Ok (not_ (equal (word 1) (word 2)), 0)
+  pub one_short : read_all table stmt 2 (name 1 ∷ different ∷ name 2 ∷ []) ≡ Err 1
+  pub none_left : read_all table stmt 1 (until ∷ name 1 ∷ name 2 ∷ []) ≡ Err 0

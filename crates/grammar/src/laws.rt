@@ -1,6 +1,6 @@
 //! Laws of grammars, each the contract of a function that does nothing.
 
-ghost use Rattle.grammar.specs.Laws.{OneValue, SomeAnswer, NeverBoth, OnePlace, BeginningsAreFronts, FrontsAreBeginnings, MoreFronts, GivesWhatIsSpelled, ReadsWhatIsSpelled, RefusesAtOnce, ReadsByProduction, TellsFronts, WithoutRecursion, SmallGrammar};
+ghost use Rattle.grammar.specs.Laws.{OneValue, SomeAnswer, NeverBoth, OnePlace, BeginningsAreFronts, FrontsAreBeginnings, MoreFronts, GivesWhatIsSpelled, ReadsWhatIsSpelled, RefusesAtOnce, ReadsByProduction, TellsFronts, WithoutRecursion, SmallGrammar, NearestIf, NoWordTwice, Levels};
 
 /// Tokens spell one value at most.
 pub fn one_value<T, N, K>()
@@ -44,4 +44,11 @@ pub fn parentheses<T, A, B>()
 /// A small grammar with a production of each form meets what the laws ask.
 pub fn small_grammar()
     ensures { SmallGrammar }
+{}
+
+/// What the reader of the small grammar answers on some lists.
+pub fn small_lists()
+    ensures nearest { NearestIf }
+    ensures no_word_twice { NoWordTwice }
+    ensures levels { Levels }
 {}

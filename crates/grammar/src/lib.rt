@@ -33,4 +33,6 @@
 
 mod laws;
 
-pub use laws::{fronts, one_answer, one_value, parentheses, reads_all, reads_names, small_grammar};
+pub use laws::{
+    fronts, one_answer, one_value, parentheses, reads_all, reads_names, small_grammar, small_lists,
+};
