@@ -14,7 +14,9 @@ pub mod ReadsRules
 pub mod Heights
 pub mod FrontHeights
 pub mod Stability
+pub mod RuleReads
 pub mod Theorem
+pub mod MoreLevels
 pub mod OneAnswer
 pub mod Outcomes
 pub mod FrontTests
@@ -22,5 +24,7 @@ pub mod Completions
 pub mod Depths
 pub mod CommonChecks
 pub mod Loops
+pub mod OpeningsCounted
 pub mod Turns
 pub mod SmallGrammarMeets
+pub mod SmallLists

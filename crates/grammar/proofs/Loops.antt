@@ -28,3 +28,7 @@ pub and_then_assoc : {T A B C : Type 0} (o : Result (A × List T) (List T)) (f :
     → and_then (and_then o f) g ≡ and_then o (λ a r. and_then (f a r) g)
 and_then_assoc (Ok y) f g = refl
 and_then_assoc (Err y) f g = refl
+
+pub and_then_same : {T A B : Type 0} (o : Result (A × List T) (List T)) (f g : A → List T → Result (B × List T) (List T)) → ((a : A) (r : List T) → f a r ≡ g a r) → and_then o f ≡ and_then o g
+and_then_same (Ok y) f g h = h y.0 y.1
+and_then_same (Err y) f g h = refl

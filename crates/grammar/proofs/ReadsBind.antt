@@ -36,8 +36,8 @@ module _ {T A B : Type 0} {W : A → List T → Type 0} {F : List T → Type 0} 
       let whole : ts ≡ (s1.0 ++ s2.0) ++ rest = s1.1 ∙ ap (λ l. s1.0 ++ l) (s2.1 ∙ ap (λ l. s2.0 ++ l) e3) ∙ sym (append_assoc s1.0 s2.0 rest) in
       (s1.0 ++ s2.0, whole, (s1.0, s2.0, refl, subst (λ a. W a s1.0) e1 s1.2, subst (λ z. V x.0 z s2.0) e2 (subst (λ z. V z two.0 s2.0) e1 s2.2)), omega (arith, s1.3, s2.3, ap d e1, ap e e2))
 
-  bind_fault : (ts rest : List T) → read_bind p q ts ≡ Err rest → (u : List T) × (ts ≡ u ++ rest) × BindFront W d b F G u
-  bind_fault ts rest h = elim (bind_err (p ts) (λ a r. and_then (q a r) (λ c r'. Ok ((a, c), r'))) rest h) [
+  bind_refusal : (ts rest : List T) → read_bind p q ts ≡ Err rest → (u : List T) × (ts ≡ u ++ rest) × BindFront W d b F G u
+  bind_refusal ts rest h = elim (bind_err (p ts) (λ a r. and_then (q a r) (λ c r'. Ok ((a, c), r'))) rest h) [
     | inl k ↦ let s = R.refusal ts rest k in (s.0, s.1, inl s.2)
     | inr one ↦
         let s1 = R.sound ts one.0 one.1 one.2 in
@@ -106,7 +106,7 @@ module _ {T A B : Type 0} {W : A → List T → Type 0} {F : List T → Type 0} 
   pub bind_reads : Reads (BindSpells W V) (BindFront W d b F G) (λ x. max (d x.0) (e x.1)) b bind_first (By bind_cont) (null1 && null2) (read_bind p q)
   bind_reads = record {
     sound = bind_sound;
-    refusal = bind_fault;
+    refusal = bind_refusal;
     complete = bind_complete;
     reach = bind_reach;
     starts = bind_starts;

@@ -34,17 +34,17 @@ module _ {T A : Type 0} {W : A → List T → Type 0} {F : List T → Type 0} {d
             ([], ap (λ z. z.1) same, subst (λ z. ManySpells W z []) (ap (λ z. z.0) same) refl, subst (λ z. deepest d z ≤ b) (ap (λ z. z.0) same) (omega arith))
       ]
 
-  many_fault : (n : ℕ) (ts rest : List T) → read_many first p n ts ≡ Err rest → (u : List T) × (ts ≡ u ++ rest) × ManyFront W d b F u
-  many_fault zero ts rest h = ok_err h
-  many_fault (suc n) [] rest h = ok_err h
-  many_fault (suc n) (t ∷ r) rest h =
+  many_refusal : (n : ℕ) (ts rest : List T) → read_many first p n ts ≡ Err rest → (u : List T) × (ts ≡ u ++ rest) × ManyFront W d b F u
+  many_refusal zero ts rest h = ok_err h
+  many_refusal (suc n) [] rest h = ok_err h
+  many_refusal (suc n) (t ∷ r) rest h =
       elim (cases_if (first t) (and_then (p (t ∷ r)) (λ a r1. and_then (read_many first p n r1) (λ ys r2. Ok (a ∷ ys, r2)))) (Ok ([], t ∷ r)) (Err rest) h) [
         | inl k ↦ elim (bind_err (p (t ∷ r)) (λ a r1. and_then (read_many first p n r1) (λ ys r2. Ok (a ∷ ys, r2))) rest k.1) [
           | inl j ↦ let s = R.refusal (t ∷ r) rest j in (s.0, s.1, ([], [], s.0, refl, refl, omega arith, s.2))
           | inr one ↦ elim (bind_err (read_many first p n one.1) (λ ys r2. Ok (one.0 ∷ ys, r2)) rest one.3) [
             | inl j ↦
                 let s1 = R.sound (t ∷ r) one.0 one.1 one.2 in
-                let s2 = many_fault n one.1 rest j in
+                let s2 = many_refusal n one.1 rest j in
                 let (xs, v, w, e, m, le, g) = s2.2 in (
                   s1.0 ++ s2.0,
                   s1.1 ∙ ap (λ l. s1.0 ++ l) s2.1 ∙ sym (append_assoc s1.0 s2.0 rest),
@@ -170,7 +170,7 @@ module _ {T A : Type 0} {W : A → List T → Type 0} {F : List T → Type 0} {d
   pub many_reads : Reads (ManySpells W) (ManyFront W d b F) (deepest d) b first (By many_cont) true (λ ts. read_many first p (length ts) ts)
   many_reads = record {
     sound = λ ts xs rest h. many_sound (length ts) ts xs rest h;
-    refusal = λ ts rest h. many_fault (length ts) ts rest h;
+    refusal = λ ts rest h. many_refusal (length ts) ts rest h;
     complete = λ xs u rest h le off. many_complete (length (u ++ rest)) xs u rest (le_refl _) h le off;
     reach = λ u v h. let (xs, x, w, e, m, le, g) = h in
         let again : u ++ v ≡ x ++ (w ++ v) = ap (λ l. l ++ v) e ∙ append_assoc x w v in

@@ -1,5 +1,5 @@
 -- The reader of a sound table reads it.
-use Rattle.std.proofs.Common.{◌≡◌, ℕ, zero, suc, ◌≤◌, Bool, true, false, ◌&&◌, ◌||◌, List, [], ◌∷◌, Some, None, inl, inr, refl, sym, ap, subst, arith, le_refl, le_trans, true≢false, is_some}
+use Rattle.std.proofs.Common.{◌≡◌, ℕ, zero, suc, ◌-◌, ◌≤◌, Bool, true, false, ◌&&◌, ◌||◌, List, [], ◌∷◌, Some, None, inl, inr, refl, sym, ap, ◌∙◌, subst, arith, le_refl, le_trans, true≢false, is_some}
 use Rattle.std.specs.Prelude.{nat_le, if◌then◌else◌}
 use Rattle.grammar.specs.Forms.{ChainSpells}
 use Rattle.grammar.specs.FormReaders.{By, Reads, under}
@@ -71,22 +71,23 @@ module _ {T N K : Type 0} {sorts : K → Sort} (G : Grammar T N K sorts) where
   nullable_sound env h (needs n r) c a x = nullable_sound env h r c.1 a x
   nullable_sound env h (named k) c a x = h k a x
 
-  at_least : (env : (k : K) → El T N (sorts k) → List T → Type 0) {s : Sort} (n : ℕ) (r : Rule T N K sorts s) → AtLeast G n r → (a : El T N s) (u : List T) → RuleSpells G env r a u → n ≤ deep T G.depth s a
-  at_least env n (token f) c a u x = c a
-  at_least env n (token_where f ok) c a u x = c a
-  at_least env n (absent b) c a u x = c a
-  at_least env n (sequence r q) c a u x = c a
-  at_least env n (choice r q) c a u (inl x) = at_least env n r c.0 a u x
-  at_least env n (choice r q) c a u (inr x) = at_least env n q c.1 a u x
-  at_least env {s} n (view f r) c a u (b, e, x) = subst (λ z. n ≤ deep T G.depth s z) (sym e) (c b)
-  at_least env {s} n (node f r) c a u (b, e, x) = subst (λ z. n ≤ deep T G.depth s z) (sym e) (c b)
-  at_least env n (many r) c a u x = c a
-  at_least env n (suffixes levels r q f) c a u x = c a
-  at_least env n (suffix levels r ok q f) c a u x = c a
-  at_least env n (starting g r) c a u x = at_least env n r c a u x.1
-  at_least env n (bind r null begins goes_on q) c a u x = c a
-  at_least env n (needs m r) c a u x = at_least env n r c a u x
-  at_least env n (named k) c a u x = c a
+  at_least : (env : (k : K) → El T N (sorts k) → List T → Type 0) {s : Sort} (r : Rule T N K sorts s) → Checks G r → (n : ℕ) → AtLeast G r n → (a : El T N s) (u : List T) → RuleSpells G env r a u → n ≤ deep T G.depth s a
+  at_least env (token f) c n h a u x = h a
+  at_least env (token_where f ok) c n h a u x = h a
+  at_least env (absent b) c n h a u x = h a
+  at_least env (sequence r q) c n (inl h) a u (v, w, e, x, y) = let le = at_least env r c.1 n h a.0 v x in omega (arith, le)
+  at_least env (sequence r q) c n (inr h) a u (v, w, e, x, y) = let le = at_least env q c.2 n h a.1 w y in omega (arith, le)
+  at_least env (choice r q) c n h a u (inl x) = at_least env r c.2 n h.0 a u x
+  at_least env (choice r q) c n h a u (inr x) = at_least env q c.3 n h.1 a u x
+  at_least env {s} (view f r) c n h a u (b, e, x) = let le = at_least env r c.1 n h b u x in omega (arith, le, ap (deep T G.depth s) e ∙ c.0 b)
+  at_least env {s} (node f r) c n h a u (b, e, x) = let le = at_least env r c.1 (n - 1) h b u x in omega (arith, le, ap (deep T G.depth s) e ∙ c.0 b)
+  at_least env (many r) c n h a u x = h a
+  at_least env (suffixes levels r q f) c n h a u x = h a
+  at_least env (suffix levels r ok q f) c n h a u x = h a
+  at_least env (starting g r) c n h a u x = at_least env r c.1 n h a u x.1
+  at_least env (bind r null begins goes_on q) c n h a u x = h a
+  at_least env (needs m r) c n h a u x = at_least env r c.1 n h a u x
+  at_least env (named k) c n h a u x = h a
 
   module _ (S : Predictive G) where
     pub derives_nullable : (n : ℕ) (k : K) (a : El T N (sorts k)) → Derives G n k a [] → G.name_nullable k ≡ true
@@ -152,7 +153,7 @@ module _ {T N K : Type 0} {sorts : K → Sort} (G : Grammar T N K sorts) where
           (λ t. included_at G (first G (q a)) begins (G.code t) d.0 (S.within t)) (λ x t i. included_at G (continues G (q a)) goes_on (G.code t) d.1 (S.within t) (continues_of G S.bounded (q a) x (G.code t) i)) d.2)
           (apart G S.within (continues G r) begins c.0))
           (λ a u x. x) (λ a u x. x) (λ u x. x) (λ u x. x) (λ t k. by_nullable (nullable G r) _ _ k) (λ a t k. k) (λ k. k)
-      reads (needs n r) b c = needs_reads n (reads r b c.1) (λ a u x. at_least sp n r c.0 a u x)
+      reads (needs n r) b c = needs_reads n (reads r b c.1) (λ a u x. at_least sp r c.1 n c.0 a u x)
       reads (named k) b c = known b k
 
     nothing_read : (k : K) (b : ℕ) → Reads (Derives G 0 k) (DerivesFront G 0 k b) (deep T G.depth (sorts k)) b (λ t. G.name_first k (G.code t)) (λ a t. G.name_goes_on k a (G.code t) ≡ true) (G.name_nullable k) (read_within G 0 b k)

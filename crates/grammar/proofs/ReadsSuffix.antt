@@ -55,15 +55,15 @@ module _ {T A S : Type 0} {W : A → List T → Type 0} {F : List T → Type 0} 
             (u, ap (λ z. u ++ z.1) same, inl (subst (λ z. W z u) e0 h), subst (λ z. d z ≤ B) e0 le)
       ]
 
-  tail_sound : (ts : List T) (x : A) (rest : List T) → read ts ≡ Ok (x, rest) → Got ts x rest
-  tail_sound ts x rest h =
+  suffix_sound : (ts : List T) (x : A) (rest : List T) → read ts ≡ Ok (x, rest) → Got ts x rest
+  suffix_sound ts x rest h =
       let two = bind_ok (p ts) one (x, rest) h in
       let s = R.sound ts two.0 two.1 two.2 in
       subst (λ z. Got z x rest) (sym s.1) (one_sound two.0 s.0 two.1 x rest s.2 s.3 two.3)
 
-  one_fault : (l : A) (u ts : List T) (rest : List T) → W l u → one l ts ≡ Err rest → (w : List T) × (u ++ ts ≡ w ++ rest) × Front w
-  one_fault l u [] rest h k = ok_err k
-  one_fault l u (t ∷ r) rest h k =
+  one_refusal : (l : A) (u ts : List T) (rest : List T) → W l u → one l ts ≡ Err rest → (w : List T) × (u ++ ts ≡ w ++ rest) × Front w
+  one_refusal l u [] rest h k = ok_err k
+  one_refusal l u (t ∷ r) rest h k =
       elim (cases_if (first2 t && fits l) (and_then (q (t ∷ r)) (λ s after. Ok (f l s, after))) (Ok (l, t ∷ r)) (Err rest) k) [
         | inl j ↦
             let low = fits_is l ((and_split (first2 t) (fits l) j.0).1) in
@@ -75,12 +75,12 @@ module _ {T A S : Type 0} {W : A → List T → Type 0} {F : List T → Type 0} 
         | inr j ↦ ok_err j.1
       ]
 
-  tail_fault : (ts rest : List T) → read ts ≡ Err rest → (u : List T) × (ts ≡ u ++ rest) × Front u
-  tail_fault ts rest h = elim (bind_err (p ts) one rest h) [
+  suffix_refusal : (ts rest : List T) → read ts ≡ Err rest → (u : List T) × (ts ≡ u ++ rest) × Front u
+  suffix_refusal ts rest h = elim (bind_err (p ts) one rest h) [
     | inl k ↦ let s = R.refusal ts rest k in (s.0, s.1, inl s.2)
     | inr two ↦
         let s = R.sound ts two.0 two.1 two.2 in
-        let g = one_fault two.0 s.0 two.1 rest s.2 two.3 in
+        let g = one_refusal two.0 s.0 two.1 rest s.2 two.3 in
         (g.0, s.1 ∙ g.1, g.2)
   ]
 
@@ -94,10 +94,10 @@ module _ {T A S : Type 0} {W : A → List T → Type 0} {F : List T → Type 0} 
       ap (λ r. and_then r one) (stops l u t (w ++ v) h (omega (arith, le)) k here)
       ∙ if_true (first2 t && fits l) (and_then (q (t ∷ (w ++ v))) (λ s after. Ok (f l s, after))) (Ok (l, t ∷ (w ++ v))) (and_both (first2 t) (fits l) here (fits_if l k le))
 
-  tail_complete : (x : A) (u rest : List T) → Whole x u → d x ≤ B → NextNot (suffix_cont x) rest → read (u ++ rest) ≡ Ok (x, rest)
-  tail_complete x u rest (inl h) le off = ap (λ r. and_then r one) (R.complete x u rest h le (off_less (λ t k. inl k) rest off)) ∙ one_end x rest off
-  tail_complete x u rest (inr (l, s, v, [], e1, e2, k, h, g)) le off = absurd (true≢false (sym (Q.empty s g)))
-  tail_complete x u rest (inr (l, s, v, t ∷ w, e1, e2, k, h, g)) le off =
+  suffix_complete : (x : A) (u rest : List T) → Whole x u → d x ≤ B → NextNot (suffix_cont x) rest → read (u ++ rest) ≡ Ok (x, rest)
+  suffix_complete x u rest (inl h) le off = ap (λ r. and_then r one) (R.complete x u rest h le (off_less (λ t k. inl k) rest off)) ∙ one_end x rest off
+  suffix_complete x u rest (inr (l, s, v, [], e1, e2, k, h, g)) le off = absurd (true≢false (sym (Q.empty s g)))
+  suffix_complete x u rest (inr (l, s, v, t ∷ w, e1, e2, k, h, g)) le off =
       let deep : d x ≡ levels + max (d l) (e s) = ap d e1 ∙ over l s (t ∷ w) k g in
       let le2 : e s ≤ b = omega (arith, deep, le) in
       let again : u ++ rest ≡ v ++ ((t ∷ w) ++ rest) = ap (λ z. z ++ rest) e2 ∙ append_assoc v (t ∷ w) rest in
@@ -120,35 +120,35 @@ module _ {T A S : Type 0} {W : A → List T → Type 0} {F : List T → Type 0} 
   to_one (Ok y) = one_short y.0 y.1
   to_one (Err y) = le_refl _
 
-  tail_reach : (u v : List T) → Front u → remaining (read (u ++ v)) ≤ length v
-  tail_reach u v (inl h) = le_trans (to_one (p (u ++ v))) (R.reach u v h)
-  tail_reach u v (inr (l, x, [], e1, k, h, le, g)) =
+  suffix_reach : (u v : List T) → Front u → remaining (read (u ++ v)) ≤ length v
+  suffix_reach u v (inl h) = le_trans (to_one (p (u ++ v))) (R.reach u v h)
+  suffix_reach u v (inr (l, x, [], e1, k, h, le, g)) =
       le_trans (to_one (p (u ++ v))) (R.reach u v (subst F (sym (e1 ∙ append-nil x)) (R.holds l x h (omega (arith, le)))))
-  tail_reach u v (inr (l, x, t ∷ w, e1, k, h, le, g)) =
+  suffix_reach u v (inr (l, x, t ∷ w, e1, k, h, le, g)) =
       let again : u ++ v ≡ x ++ ((t ∷ w) ++ v) = ap (λ z. z ++ v) e1 ∙ append_assoc x (t ∷ w) v in
       le_trans (le_of_eq (ap remaining (ap read again ∙ begin l x t w v h k le (Q.starts t w g)) ∙ then_same l (q ((t ∷ w) ++ v)))) (Q.reach (t ∷ w) v g)
 
-  tail_starts : (t : T) (u : List T) → Front (t ∷ u) → first1 t ≡ true
-  tail_starts t u (inl h) = R.starts t u h
-  tail_starts t u (inr (l, [], w, e1, k, h, le, g)) = absurd (true≢false (sym (R.empty l h)))
-  tail_starts t u (inr (l, t' ∷ x, w, e1, k, h, le, g)) = subst (λ z. first1 z ≡ true) (sym (heads e1)) (R.starts t' x (R.holds l (t' ∷ x) h (omega (arith, le))))
+  suffix_starts : (t : T) (u : List T) → Front (t ∷ u) → first1 t ≡ true
+  suffix_starts t u (inl h) = R.starts t u h
+  suffix_starts t u (inr (l, [], w, e1, k, h, le, g)) = absurd (true≢false (sym (R.empty l h)))
+  suffix_starts t u (inr (l, t' ∷ x, w, e1, k, h, le, g)) = subst (λ z. first1 z ≡ true) (sym (heads e1)) (R.starts t' x (R.holds l (t' ∷ x) h (omega (arith, le))))
 
-  tail_holds : (x : A) (u : List T) → Whole x u → d x ≤ B → Front u
-  tail_holds x u (inl h) le = inl (R.holds x u h le)
-  tail_holds x u (inr (l, s, v, w, e1, e2, k, h, g)) le =
+  suffix_holds : (x : A) (u : List T) → Whole x u → d x ≤ B → Front u
+  suffix_holds x u (inl h) le = inl (R.holds x u h le)
+  suffix_holds x u (inr (l, s, v, w, e1, e2, k, h, g)) le =
       let deep : d x ≡ levels + max (d l) (e s) = ap d e1 ∙ over l s w k g in
       inr (l, v, w, e2, k, h, omega (arith, deep, le), Q.holds s w g (omega (arith, deep, le)))
 
-  tail_closed : (u v : List T) → Front (u ++ v) → Front u
-  tail_closed u v (inl h) = inl (R.closed u v h)
-  tail_closed u v (inr (l, x, w, e1, k, h, le, g)) = elim (cut u v x w e1) [
+  suffix_closed : (u v : List T) → Front (u ++ v) → Front u
+  suffix_closed u v (inl h) = inl (R.closed u v h)
+  suffix_closed u v (inr (l, x, w, e1, k, h, le, g)) = elim (cut u v x w e1) [
     | inl i ↦ inr (l, x, i.0, i.1, k, h, le, Q.closed i.0 v (subst G i.2 g))
     | inr i ↦ inl (R.closed u i.0 (subst F i.1 (R.holds l x h (omega (arith, le)))))
   ]
 
-  tail_empty : (x : A) → Whole x [] → false ≡ true
-  tail_empty x (inl h) = R.empty x h
-  tail_empty x (inr (l, s, v, w, e1, e2, k, h, g)) = R.empty l (subst (W l) ((append_empty v w e2).0) h)
+  suffix_empty : (x : A) → Whole x [] → false ≡ true
+  suffix_empty x (inl h) = R.empty x h
+  suffix_empty x (inr (l, s, v, w, e1, e2, k, h, g)) = R.empty l (subst (W l) ((append_empty v w e2).0) h)
 
   pub suffix_reads : Reads (SuffixSpells W ok V f) Front d B first1 suffix_cont false (read_suffix first2 fits f p q)
-  suffix_reads = record { sound = tail_sound; refusal = tail_fault; complete = tail_complete; reach = tail_reach; starts = tail_starts; holds = tail_holds; closed = tail_closed; nothing = inl R.nothing; empty = tail_empty }
+  suffix_reads = record { sound = suffix_sound; refusal = suffix_refusal; complete = suffix_complete; reach = suffix_reach; starts = suffix_starts; holds = suffix_holds; closed = suffix_closed; nothing = inl R.nothing; empty = suffix_empty }

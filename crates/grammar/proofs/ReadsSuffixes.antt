@@ -12,8 +12,8 @@ module _ {T A S : Type 0} {W : A → List T → Type 0} {F : List T → Type 0} 
     (apart1 : Apart cont1 first2) (apart2 : Apart cont2 first2)
     (fits_is : (l : A) → fits l ≡ true → d l ≤ b) (fits_if : (l : A) → d l ≤ b → fits l ≡ true)
     (over : (l : A) (s : S) → d (f l s) ≡ levels + max (d l) (e s)) where
-  abbrev pub left_cont : T → Bool
-  left_cont t = cont1 t || (cont2 t || first2 t)
+  abbrev pub suffixes_cont : T → Bool
+  suffixes_cont t = cont1 t || (cont2 t || first2 t)
 
   abbrev loop : ℕ → A → List T → Result (A × List T) (List T)
   loop = read_more_suffixes first2 fits f q
@@ -50,10 +50,10 @@ module _ {T A S : Type 0} {W : A → List T → Type 0} {F : List T → Type 0} 
         | inr j ↦ stop u0 (t ∷ r) l x rest h le (ap (λ z. z.0) (ok_inj j.1)) (ap (λ z. z.1) (ok_inj j.1))
       ]
 
-  loop_fault : (n : ℕ) (l : A) (u0 ts : List T) (rest : List T) → Whole l u0 → loop n l ts ≡ Err rest → (w : List T) × (ts ≡ w ++ rest) × Front (u0 ++ w)
-  loop_fault zero l u0 ts rest h k = ok_err k
-  loop_fault (suc n) l u0 [] rest h k = ok_err k
-  loop_fault (suc n) l u0 (t ∷ r) rest h k =
+  loop_refusal : (n : ℕ) (l : A) (u0 ts : List T) (rest : List T) → Whole l u0 → loop n l ts ≡ Err rest → (w : List T) × (ts ≡ w ++ rest) × Front (u0 ++ w)
+  loop_refusal zero l u0 ts rest h k = ok_err k
+  loop_refusal (suc n) l u0 [] rest h k = ok_err k
+  loop_refusal (suc n) l u0 (t ∷ r) rest h k =
       elim (cases_if (first2 t && fits l) (and_then (q (t ∷ r)) (λ s after. loop n (f l s) after)) (Ok (l, t ∷ r)) (Err rest) k) [
         | inl j ↦
             let low = fits_is l ((and_split (first2 t) (fits l) j.0).1) in
@@ -62,25 +62,25 @@ module _ {T A S : Type 0} {W : A → List T → Type 0} {F : List T → Type 0} 
               | inr one ↦
                   let g = Q.sound (t ∷ r) one.0 one.1 one.2 in
                   let more : Whole (f l one.0) (u0 ++ g.0) = (suc h.0, (l, one.0, u0, g.0, refl, refl, h.1, g.2)) in
-                  let (w, e1, m) = loop_fault n (f l one.0) (u0 ++ g.0) one.1 rest more one.3 in
+                  let (w, e1, m) = loop_refusal n (f l one.0) (u0 ++ g.0) one.1 rest more one.3 in
                   (g.0 ++ w, g.1 ∙ ap (λ z. g.0 ++ z) e1 ∙ sym (append_assoc g.0 w rest), subst Front (append_assoc u0 g.0 w) m)
             ]
         | inr j ↦ ok_err j.1
       ]
 
-  left_sound : (ts : List T) (x : A) (rest : List T) → read ts ≡ Ok (x, rest) → (u : List T) × (ts ≡ u ++ rest) × Whole x u × (d x ≤ B)
-  left_sound ts x rest h =
+  suffixes_sound : (ts : List T) (x : A) (rest : List T) → read ts ≡ Ok (x, rest) → (u : List T) × (ts ≡ u ++ rest) × Whole x u × (d x ≤ B)
+  suffixes_sound ts x rest h =
       let one = bind_ok (p ts) (λ l r. loop (length r) l r) (x, rest) h in
       let s = R.sound ts one.0 one.1 one.2 in
       let (w, e1, m, le) = loop_sound (length one.1) one.0 s.0 one.1 x rest (0, s.2) s.3 one.3 in
       (s.0 ++ w, s.1 ∙ ap (λ z. s.0 ++ z) e1 ∙ sym (append_assoc s.0 w rest), m, le)
 
-  left_fault : (ts rest : List T) → read ts ≡ Err rest → (u : List T) × (ts ≡ u ++ rest) × Front u
-  left_fault ts rest h = elim (bind_err (p ts) (λ l r. loop (length r) l r) rest h) [
+  suffixes_refusal : (ts rest : List T) → read ts ≡ Err rest → (u : List T) × (ts ≡ u ++ rest) × Front u
+  suffixes_refusal ts rest h = elim (bind_err (p ts) (λ l r. loop (length r) l r) rest h) [
     | inl k ↦ let s = R.refusal ts rest k in (s.0, s.1, inl s.2)
     | inr one ↦
         let s = R.sound ts one.0 one.1 one.2 in
-        let (w, e1, m) = loop_fault (length one.1) one.0 s.0 one.1 rest (0, s.2) one.3 in
+        let (w, e1, m) = loop_refusal (length one.1) one.0 s.0 one.1 rest (0, s.2) one.3 in
         (s.0 ++ w, s.1 ∙ ap (λ z. s.0 ++ z) e1 ∙ sym (append_assoc s.0 w rest), m)
   ]
 
@@ -113,20 +113,20 @@ module _ {T A S : Type 0} {W : A → List T → Type 0} {F : List T → Type 0} 
   loop_end (suc m) x [] off = refl
   loop_end (suc m) x (t ∷ r) off = if_false (first2 t && fits x) (and_then (q (t ∷ r)) (λ s after. loop m (f x s) after)) (Ok (x, t ∷ r)) (λ k. off ((and_split (first2 t) (fits x) k).0))
 
-  off_1 : (rest : List T) → NextNotIn left_cont rest → NextNotIn cont1 rest
+  off_1 : (rest : List T) → NextNotIn suffixes_cont rest → NextNotIn cont1 rest
   off_1 [] off = tt
   off_1 (t ∷ r) off = λ k. off (or_left (cont1 t) _ k)
 
-  off_2 : (rest : List T) → NextNotIn left_cont rest → NextNotIn cont2 rest
+  off_2 : (rest : List T) → NextNotIn suffixes_cont rest → NextNotIn cont2 rest
   off_2 [] off = tt
   off_2 (t ∷ r) off = λ k. off (or_right (cont1 t) _ (or_left (cont2 t) _ k))
 
-  off_3 : (rest : List T) → NextNotIn left_cont rest → NextNotIn first2 rest
+  off_3 : (rest : List T) → NextNotIn suffixes_cont rest → NextNotIn first2 rest
   off_3 [] off = tt
   off_3 (t ∷ r) off = λ k. off (or_right (cont1 t) _ (or_right (cont2 t) _ k))
 
-  left_complete : (x : A) (u rest : List T) → Whole x u → d x ≤ B → NextNotIn left_cont rest → read (u ++ rest) ≡ Ok (x, rest)
-  left_complete x u rest h le off =
+  suffixes_complete : (x : A) (u rest : List T) → Whole x u → d x ≤ B → NextNotIn suffixes_cont rest → read (u ++ rest) ≡ Ok (x, rest)
+  suffixes_complete x u rest h le off =
       let (m, len, same) = run h.0 x u rest h.1 le (off_1 rest off) (off_2 rest off) in
       same ∙ loop_end m x rest (off_3 rest off)
 
@@ -176,11 +176,11 @@ module _ {T A S : Type 0} {W : A → List T → Type 0} {F : List T → Type 0} 
       let again : u ++ v ≡ y ++ ((t ∷ w) ++ v) = ap (λ z. z ++ v) e2 ∙ append_assoc y (t ∷ w) v in
       subst (λ z. remaining (read z) ≤ length v) (sym again) (behind l y t w v (k, h) (omega (arith, deep, le)) (Q.holds s (t ∷ w) g (omega (arith, deep, le))))
 
-  left_reach : (u v : List T) → Front u → remaining (read (u ++ v)) ≤ length v
-  left_reach u v (inl h) = base_reach u v h
-  left_reach u v (inr (l, x, [], e1, h, le, g)) =
+  suffixes_reach : (u v : List T) → Front u → remaining (read (u ++ v)) ≤ length v
+  suffixes_reach u v (inl h) = base_reach u v h
+  suffixes_reach u v (inr (l, x, [], e1, h, le, g)) =
       subst (λ z. remaining (read (z ++ v)) ≤ length v) (sym (e1 ∙ append-nil x)) (whole_reach h.0 l x v h.1 (omega (arith, le)))
-  left_reach u v (inr (l, x, t ∷ w, e1, h, le, g)) =
+  suffixes_reach u v (inr (l, x, t ∷ w, e1, h, le, g)) =
       let again : u ++ v ≡ x ++ ((t ∷ w) ++ v) = ap (λ z. z ++ v) e1 ∙ append_assoc x (t ∷ w) v in
       subst (λ z. remaining (read z) ≤ length v) (sym again) (behind l x t w v h le g)
 
@@ -196,10 +196,10 @@ module _ {T A S : Type 0} {W : A → List T → Type 0} {F : List T → Type 0} 
       let deep : d x ≡ levels + max (d l) (e s) = ap d e1 ∙ over l s in
       subst (λ z. first1 z ≡ true) (sym (heads e2)) (chain_starts k l t' v h (omega (arith, deep, le)))
 
-  left_starts : (t : T) (u : List T) → Front (t ∷ u) → first1 t ≡ true
-  left_starts t u (inl h) = R.starts t u h
-  left_starts t u (inr (l, [], w, e1, h, le, g)) = absurd (some_token h.0 l h.1)
-  left_starts t u (inr (l, t' ∷ x, w, e1, h, le, g)) = subst (λ z. first1 z ≡ true) (sym (heads e1)) (chain_starts h.0 l t' x h.1 (omega (arith, le)))
+  suffixes_starts : (t : T) (u : List T) → Front (t ∷ u) → first1 t ≡ true
+  suffixes_starts t u (inl h) = R.starts t u h
+  suffixes_starts t u (inr (l, [], w, e1, h, le, g)) = absurd (some_token h.0 l h.1)
+  suffixes_starts t u (inr (l, t' ∷ x, w, e1, h, le, g)) = subst (λ z. first1 z ≡ true) (sym (heads e1)) (chain_starts h.0 l t' x h.1 (omega (arith, le)))
 
   chain_closed : (k : ℕ) (x : A) (u m : List T) → ChainSpells W V f k x (u ++ m) → d x ≤ B → Front u
   chain_closed zero x u m h le = inl (R.closed u m (R.holds x (u ++ m) h le))
@@ -210,28 +210,28 @@ module _ {T A S : Type 0} {W : A → List T → Type 0} {F : List T → Type 0} 
         | inr i ↦ chain_closed k l u i.0 (subst (ChainSpells W V f k l) i.1 h) (omega (arith, deep, le))
       ]
 
-  left_closed : (u v : List T) → Front (u ++ v) → Front u
-  left_closed u v (inl h) = inl (R.closed u v h)
-  left_closed u v (inr (l, x, w, e1, h, le, g)) = elim (cut u v x w e1) [
+  suffixes_closed : (u v : List T) → Front (u ++ v) → Front u
+  suffixes_closed u v (inl h) = inl (R.closed u v h)
+  suffixes_closed u v (inr (l, x, w, e1, h, le, g)) = elim (cut u v x w e1) [
     | inl i ↦ inr (l, x, i.0, i.1, h, le, Q.closed i.0 v (subst G i.2 g))
     | inr i ↦ chain_closed h.0 l u i.0 (subst (ChainSpells W V f h.0 l) i.1 h.1) (omega (arith, le))
   ]
 
-  left_holds : (k : ℕ) (x : A) (u : List T) → ChainSpells W V f k x u → d x ≤ B → Front u
-  left_holds zero x u h le = inl (R.holds x u h le)
-  left_holds (suc k) x u (l, s, v, w, e1, e2, h, g) le =
+  suffixes_holds : (k : ℕ) (x : A) (u : List T) → ChainSpells W V f k x u → d x ≤ B → Front u
+  suffixes_holds zero x u h le = inl (R.holds x u h le)
+  suffixes_holds (suc k) x u (l, s, v, w, e1, e2, h, g) le =
       let deep : d x ≡ levels + max (d l) (e s) = ap d e1 ∙ over l s in
       inr (l, v, w, e2, (k, h), omega (arith, deep, le), Q.holds s w g (omega (arith, deep, le)))
 
-  pub suffixes_reads : Reads (SuffixesSpell W V f) Front d B first1 (By left_cont) false (read_suffixes first2 fits f p q)
+  pub suffixes_reads : Reads (SuffixesSpell W V f) Front d B first1 (By suffixes_cont) false (read_suffixes first2 fits f p q)
   suffixes_reads = record {
-    sound = left_sound;
-    refusal = left_fault;
-    complete = left_complete;
-    reach = left_reach;
-    starts = left_starts;
-    holds = λ x u h le. left_holds h.0 x u h.1 le;
-    closed = left_closed;
+    sound = suffixes_sound;
+    refusal = suffixes_refusal;
+    complete = suffixes_complete;
+    reach = suffixes_reach;
+    starts = suffixes_starts;
+    holds = λ x u h le. suffixes_holds h.0 x u h.1 le;
+    closed = suffixes_closed;
     nothing = inl R.nothing;
     empty = λ x h. absurd (some_token h.0 x h.1);
   }

@@ -13,15 +13,6 @@ use Rattle.grammar.specs.CommonRules.{class, behind, separated}
 use Rattle.grammar.specs.Statements.{is_new, Tree, word, words, not_, equal, when, either, loop, depth, Token, name, if_, else_, until, different, comma, open_, close, open_list, close_list, open_fields, close_fields, code, number, numbers, Name, stmt, expr, fields, sort, next_fields, some_fields, word_list, prim, compared, plain, branches, is_none, is_closed, then_part, parts, branched, conditional, looped, production, begins, statement_goes_on, goes_on, table}
 use Rattle.grammar.specs.Statements as small
 
-some_level : (a : Tree) → 1 ≤ depth a
-some_level (word n) = omega arith
-some_level (words ns) = omega arith
-some_level (not_ a) = omega arith
-some_level (equal a b) = omega arith
-some_level (when a b) = omega arith
-some_level (either a b c) = omega arith
-some_level (loop a b) = omega arith
-
 c_next : (seen : List ℕ) → Checks table (next_fields seen)
 c_next seen = (refl, refl, behind_checks table (named (fields seen)) tt (class 5), tt)
 
@@ -40,7 +31,7 @@ c_prim : Checks table prim
 c_prim = (refl, refl, (λ a. refl, tt), (refl, refl, between_checks table (named expr) tt (class 6) (class 7) refl, (λ a. omega (arith, deepest_flat a), c_word_list)))
 
 c_compared : Checks table compared
-c_compared = (refl, refl, refl, refl, λ a b. omega arith, c_prim, (λ x. omega arith, (refl, tt, c_prim)))
+c_compared = (refl, refl, refl, refl, λ a b. omega arith, c_prim, (λ x. omega arith, (refl, tt, (refl, c_prim))))
 
 none_deep : (o : Option (Tree × ℕ)) → is_none o ≡ true → deep_if (λ x. depth x.0) o ≡ 0
 none_deep None k = refl
@@ -79,7 +70,7 @@ c_conditional : Checks table conditional
 c_conditional = (λ x. branch_deep (x.0.0) (x.0.1.0) (x.1), c_parts)
 
 c_looped : Checks table looped
-c_looped = (λ x. omega (arith, some_level x.0), (λ x. omega arith, (λ x. omega arith, (refl, tt, (refl, (λ x. omega arith, tt), tt)))))
+c_looped = (inr (inl (λ x. omega arith)), (λ x. omega arith, (λ x. omega arith, (refl, tt, (refl, (λ x. omega arith, tt), tt)))))
 
 c_all : (k : Name) → Checks table (production k)
 c_all stmt = (refl, refl, (λ x. omega arith, c_compared), (refl, refl, c_conditional, c_looped))
@@ -181,7 +172,7 @@ p_prim : Productive table prim
 p_prim = ((name 0, refl), (((open_, refl), (tt, (close, refl))), (((open_list, refl), (((name 0, refl), ((comma, refl), (name 0, refl))), (close_list, refl))), ((open_fields, refl), (tt, (close_fields, refl))))))
 
 p_compared : Productive table compared
-p_compared = (p_prim, ((different, refl), p_prim))
+p_compared = (p_prim, ((different, refl), (p_prim, (word 0, name 0 ∷ [], refl, inl (name 0, refl, (name 0, refl, refl))))))
 
 productive : (k : Name) → Productive table (production k)
 productive stmt = (p_compared, ((((if_, refl), (tt, tt)), ((else_, refl), tt)), ((until, refl), (tt, tt))))

@@ -24,9 +24,9 @@ module _ {T N K : Type 0} {sorts : K → Sort} (G : Grammar T N K sorts) (S : Pr
     R = read_named_reads G S b k
 
     -- where the reader stopped, by what is left
-    fault_here : (ts u rest : List T) → ts ≡ u ++ rest → IsFront G k b u → remaining (read_named G b k ts) ≡ length rest
+    refused_here : (ts u rest : List T) → ts ≡ u ++ rest → IsFront G k b u → remaining (read_named G b k ts) ≡ length rest
         → ((p : El T N (sorts k)) → Spells G k p ts → deep T G.depth (sorts k) p ≤ b → ⊥) → RefusedAt G k b ts (length ts - length rest)
-    fault_here ts u rest e f l w = record {
+    refused_here ts u rest e f l w = record {
       within = omega (arith, len);
       before = λ n h. let (v, e1) = take_front n u rest (omega (arith, h, at)) in
           subst (λ z. IsFront G k b (take n z)) (sym e) ((R).closed (take n (u ++ rest)) v (subst (IsFront G k b) e1 f));
@@ -73,10 +73,10 @@ module _ {T N K : Type 0} {sorts : K → Sort} (G : Grammar T N K sorts) (S : Pr
         by (Ok (q, t ∷ r)) e g =
             let s = (R).sound ts q (t ∷ r) e in
             subst (RefusedAt G k b ts) (err_inj g)
-            (fault_here ts s.0 (t ∷ r) s.1 ((R).holds q s.0 s.2 s.3) (ap remaining e) (λ p x le. let no : ⊥ = omega (arith, ap remaining (sym e ∙ again p ts x le)) in no))
+            (refused_here ts s.0 (t ∷ r) s.1 ((R).holds q s.0 s.2 s.3) (ap remaining e) (λ p x le. let no : ⊥ = omega (arith, ap remaining (sym e ∙ again p ts x le)) in no))
         by (Err r) e g =
             let s = (R).refusal ts r e in
-            subst (RefusedAt G k b ts) (err_inj g) (fault_here ts s.0 r s.1 s.2 (ap remaining e) (λ p x le. err_ok (sym e ∙ again p ts x le)))
+            subst (RefusedAt G k b ts) (err_inj g) (refused_here ts s.0 r s.1 s.2 (ap remaining e) (λ p x le. err_ok (sym e ∙ again p ts x le)))
 
     pub read_whole : (ts : List T) (p : El T N (sorts k)) → SpellsWithin G k b p ts → read_all G k b ts ≡ Ok p
     unfolding read_all

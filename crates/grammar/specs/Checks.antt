@@ -1,5 +1,5 @@
 -- What a grammar has to meet so that one token tells how to go on.
-use Rattle.std.specs.Prelude.{◌≡◌, ℕ, zero, suc, ◌+◌, ◌≤◌, ◌<◌, max, Bool, true, false, ◌&&◌, ◌||◌, ◌⊎◌, List, [], ◌∷◌, if◌then◌else◌}
+use Rattle.std.specs.Prelude.{◌≡◌, ℕ, zero, suc, ◌+◌, ◌-◌, ◌≤◌, ◌<◌, max, Bool, true, false, ◌&&◌, ◌||◌, ◌⊎◌, List, [], ◌∷◌, if◌then◌else◌}
 use Rattle.grammar.specs.Rules.{Sort, El, deep, Rule, token, token_where, absent, sequence, choice, view, node, many, suffixes, suffix, starting, bind, needs, named, Grammar}
 
 -- The classes below `n` in the set. What a check asks is that a list of classes is empty, so the goal of a failing one
@@ -81,15 +81,22 @@ module _ {T N K : Type 0} {sorts : K → Sort} (G : Grammar T N K sorts) where
   abbrev pub Included : (ℕ → Bool) → (ℕ → Bool) → Type 0
   Included f g = classes_in (G.size) (λ n. if g n then false else f n) ≡ []
 
-  -- the values that the rule makes have so many levels
-  abbrev pub AtLeast : {s : Sort} → ℕ → Rule T N K sorts s → Type 0
-  AtLeast n (choice r q) = AtLeast n r × AtLeast n q
-  AtLeast {s} n (view {s = s'} f r) = (a : El T N s') → n ≤ deep T G.depth s (f a)
-  AtLeast {s} n (node {s = s'} f r) = (a : El T N s') → n ≤ deep T G.depth s (f a)
-  AtLeast n (starting g r) = AtLeast n r
-  AtLeast n (needs m r) = AtLeast n r
-  AtLeast {s} n r = (a : El T N s) → n ≤ deep T G.depth s a
+  -- what the rule spells has so many levels
+  abbrev pub AtLeast : {s : Sort} → Rule T N K sorts s → ℕ → Type 0
+  AtLeast (sequence r q) n = AtLeast r n ⊎ AtLeast q n
+  AtLeast (choice r q) n = AtLeast r n × AtLeast q n
+  AtLeast (view f r) n = AtLeast r n
+  AtLeast (node f r) n = AtLeast r (n - 1)
+  AtLeast (starting g r) n = AtLeast r n
+  AtLeast (needs m r) n = AtLeast r n
+  AtLeast {s} r n = (a : El T N s) → n ≤ deep T G.depth s a
 
+  -- where the value may have a part behind, no token that begins the part goes on with the value itself: by classes, or by
+  -- what the value tells
+  abbrev pub Separate : {s r : Sort} → Rule T N K sorts s → (El T N s → Bool) → Rule T N K sorts r → Type 0
+  Separate {s} r ok q = Disjoint (continues r) (first q) ⊎ ((l : El T N s) (t : ℕ) → t < G.size → ok l ≡ true → GoesOn r l t → first q t ≡ true → ⊥)
+
+  -- one token tells how to go on in the rule, and nodes are as deep as the grammar says
   abbrev pub Checks : {s : Sort} → Rule T N K sorts s → Type 0
   Checks (token f) = Unit {0}
   Checks (token_where f ok) = Unit {0}
@@ -101,15 +108,15 @@ module _ {T N K : Type 0} {sorts : K → Sort} (G : Grammar T N K sorts) where
   Checks (many r) = Disjoint (continues r) (first r) × (nullable r ≡ false) × Checks r
   Checks (suffixes {s = s} {r = r'} levels r q f) = Disjoint (continues r) (first q) × Disjoint (continues q) (first q) × (nullable r ≡ false) × (nullable q ≡ false)
       × ((l : El T N s) (x : El T N r') → deep T G.depth s (f l x) ≡ levels + max (deep T G.depth s l) (deep T G.depth r' x)) × Checks r × Checks q
-  Checks (suffix {s = s} {r = r'} levels r ok q f) = (Disjoint (continues r) (first q) ⊎ ((l : El T N s) (t : ℕ) → t < G.size → ok l ≡ true → GoesOn r l t → first q t ≡ true → ⊥)) × (nullable r ≡ false) × (nullable q ≡ false)
+  Checks (suffix {s = s} {r = r'} levels r ok q f) = Separate r ok q × (nullable r ≡ false) × (nullable q ≡ false)
       × ((l : El T N s) (x : El T N r') → ok l ≡ true → deep T G.depth s (f l x) ≡ levels + max (deep T G.depth s l) (deep T G.depth r' x)) × Checks r × Checks q
   Checks (starting g r) = (nullable r ≡ false) × Checks r
   Checks (bind {s = s} r null begins goes_on q) = Disjoint (continues r) begins × Checks r
       × ((a : El T N s) → Included (first (q a)) begins × Included (continues (q a)) goes_on × (nullable (q a) ≡ true → null ≡ true) × Checks (q a))
-  Checks (needs n r) = AtLeast n r × Checks r
+  Checks (needs n r) = AtLeast r n × Checks r
   Checks (named k) = Unit {0}
 
-  -- each name in it stands under a node of it, or behind a token of it
+  -- each name in it stands under a node of it, or behind a token of it, so that reading it ends
   abbrev pub Guarded : {s : Sort} → Rule T N K sorts s → Type 0
   Guarded (token f) = Unit {0}
   Guarded (token_where f ok) = Unit {0}
@@ -127,9 +134,12 @@ module _ {T N K : Type 0} {sorts : K → Sort} (G : Grammar T N K sorts) where
   Guarded (named k) = ⊥
 
   pub record Predictive : Type 0 where
+    -- the productions
     pub checks : (k : K) → Checks (G.production k)
     pub guarded : (k : K) → Guarded (G.production k)
+    -- the tokens
     pub within : (t : T) → G.code t < G.size
+    -- what is said of names covers their productions
     pub begins : (k : K) → Included (first (G.production k)) (G.name_first k)
     pub goes_on : (k : K) → Included (continues (G.production k)) (G.name_continues k)
     pub by_value : (k : K) (a : El T N (sorts k)) (t : ℕ) → t < G.size → GoesOn (G.production k) a t → G.name_goes_on k a t ≡ true

@@ -27,9 +27,10 @@ pub record Reads {T A : Type 0} (W : A → List T → Type 0) (F : List T → Ty
   pub sound : (ts : List T) (a : A) (rest : List T) → p ts ≡ Ok (a, rest) → (u : List T) × (ts ≡ u ++ rest) × W a u × (d a ≤ b)
   pub refusal : (ts rest : List T) → p ts ≡ Err rest → (u : List T) × (ts ≡ u ++ rest) × F u
   pub complete : (a : A) (u rest : List T) → W a u → d a ≤ b → NextNot (continues a) rest → p (u ++ rest) ≡ Ok (a, rest)
-  -- it gets past every front
+  -- it gets past every front, so it refuses no token too early
   pub reach : (u v : List T) → F u → remaining (p (u ++ v)) ≤ length v
   pub starts : (t : T) (u : List T) → F (t ∷ u) → first t ≡ true
+  -- wholes are fronts, and what fronts begin with are
   pub holds : (a : A) (u : List T) → W a u → d a ≤ b → F u
   pub closed : (u v : List T) → F (u ++ v) → F u
   pub nothing : F []
@@ -113,3 +114,19 @@ read_needs n b p ts = if nat_le n b then p ts else Err ts
 
 abbrev pub read_bind : {T A B : Type 0} → (List T → Result (A × List T) (List T)) → (A → List T → Result (B × List T) (List T)) → List T → Result ((A × B) × List T) (List T)
 read_bind p q ts = and_then (p ts) (λ a rest. and_then (q a rest) (λ c after. Ok ((a, c), after)))
+
+-- ---- parentheses that make no node, read without recursion
+
+-- the openings that come next, and what stands behind them
+abbrev pub openings : {T : Type 0} → (T → Bool) → List T → ℕ
+openings opens [] = 0
+openings opens (t ∷ r) = if opens t then suc (openings opens r) else 0
+
+abbrev pub behind_openings : {T : Type 0} → (T → Bool) → List T → List T
+behind_openings opens [] = []
+behind_openings opens (t ∷ r) = if opens t then behind_openings opens r else t ∷ r
+
+-- behind a value that stands in so many of them: the rest of an expression and its closing one, as often
+unfoldable pub close_all : {T A B : Type 0} → (A → List T → Result (B × List T) (List T)) → (B → List T → Result (A × List T) (List T)) → ℕ → A → List T → Result (A × List T) (List T)
+close_all resume close zero a ts = Ok (a, ts)
+close_all resume close (suc n) a ts = and_then (resume a ts) (λ e rest. and_then (close e rest) (λ c after. close_all resume close n c after))

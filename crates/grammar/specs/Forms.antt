@@ -1,9 +1,9 @@
--- The ways to put rules of a grammar together. For each of them: which values a list of tokens spells, and which lists are fronts.
--- A front is what a reader may have seen before it has to refuse: a list that some further tokens might complete, whose
--- nodes are within a number of levels.
+-- The ways to put rules of a grammar together, and for each which values a list of tokens spells (`W a u`: the list `u` spells
+-- `a`) and which lists are fronts (`F u`): beginnings of what is spelled, whose nodes so far are within a number of levels.
+-- `d` is the depth of a value, and `b` the levels.
 use Rattle.std.specs.Prelude.{◌≡◌, ℕ, zero, suc, ◌+◌, ◌≤◌, max, Bool, true, List, [], ◌∷◌, ◌++◌, Option, Some, ◌⊎◌}
 
--- one token, which the function takes
+-- one token, of which the function makes the value
 abbrev pub TokenSpells : {T A : Type 0} → (T → Option A) → A → List T → Type 0
 TokenSpells {T} f a u = (t : T) × (u ≡ t ∷ []) × (f t ≡ Some a)
 

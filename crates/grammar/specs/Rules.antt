@@ -68,11 +68,12 @@ pub record Grammar (T N K : Type 0) (sorts : K → Sort) : Type 0 where
   -- the class of a token, below `size`
   pub code : T → ℕ
   pub size : ℕ
+  -- how deep a node is
   pub depth : N → ℕ
   pub production : (k : K) → Rule T N K sorts (sorts k)
   -- whether no token can spell a name, the classes that begin it, and those that can go on behind a whole one
   pub name_nullable : K → Bool
   pub name_first : K → ℕ → Bool
   pub name_continues : K → ℕ → Bool
-  -- those of the last that can go on behind a whole one of that value
+  -- which of the last can go on behind a whole one of that value
   pub name_goes_on : (k : K) → El T N (sorts k) → ℕ → Bool

@@ -35,8 +35,9 @@ module _ {T N K : Type 0} {sorts : K → Sort} (G : Grammar T N K sorts) where
   abbrev pub Spells : (k : K) → El T N (sorts k) → List T → Type 0
   Spells k a u = (n : ℕ) × Derives n k a u
 
-  -- ---- fronts, whose nodes are within the levels `b`
+  -- ---- fronts
 
+  -- the list is a front of the rule within `b` levels, where `names` and `fronts` tell what names spell and their fronts
   abbrev pub RuleFront : {s : Sort} → ((k : K) → El T N (sorts k) → List T → Type 0) → (K → ℕ → List T → Type 0) → Rule T N K sorts s → ℕ → List T → Type 0
   RuleFront names fronts (token f) b = TokenFront (token_in G.code f)
   RuleFront names fronts (token_where f ok) b = TokenFront (token_such G.code f ok)

@@ -1,10 +1,10 @@
 -- A small grammar with a production of each form:
 --   stmt   : expr | "if" expr stmt ["else" stmt] | "until" expr stmt
---   expr   : prim ("!=" prim)*                            a "not" over an "equal"
+--   expr   : prim ("!=" prim)*                            a "not" over an "equal"; no list behind the sign
 --   prim   : word | "(" expr ")" | "[" word ("," word)* "]" | "{" fields "}"
 --   fields : word ("," word)*                             no word twice
 use Rattle.std.specs.Prelude.{ℕ, suc, max, Bool, true, false, ◌&&◌, ◌||◌, nat_eq, if◌then◌else◌, List, [], ◌∷◌, Option, Some, None}
-use Rattle.grammar.specs.Rules.{Sort, leaf, tree, marked, pair, list, optional, El, Rule, token, token_where, absent, sequence, choice, view, node, suffixes, suffix, bind, needs, named, Grammar}
+use Rattle.grammar.specs.Rules.{Sort, leaf, tree, marked, pair, list, optional, El, Rule, token, token_where, absent, sequence, choice, view, node, suffixes, suffix, starting, bind, needs, named, Grammar}
 use Rattle.grammar.specs.CommonRules.{class, ◌or◌, behind, between, separated}
 
 pub data Tree : Type 0 where
@@ -76,7 +76,7 @@ sort (fields seen) = list leaf
 abbrev pub R : Sort → Type 0
 R = Rule Token Tree Name sort
 
--- ---- fields : word ("," word)*, where the tokens so far are no word that comes
+-- ---- fields : word ("," word)*, where no word stands before
 
 abbrev pub is_new : List ℕ → Token → Bool
 is_new [] t = true
@@ -99,7 +99,7 @@ prim = choice (node {s = leaf} (λ t. word (number t)) (token (class 0))) (choic
 -- ---- expr : prim ("!=" prim)*, two levels for each
 
 abbrev pub compared : R tree
-compared = suffixes {r = tree} 2 prim (behind (class 4) prim) (λ a b. not_ (equal a b))
+compared = suffixes {r = tree} 2 prim (behind (class 4) (starting (class 0 or class 6) prim)) (λ a b. not_ (equal a b))
 
 -- ---- stmt : expr | "if" expr stmt ["else" stmt] | "until" expr stmt
 
