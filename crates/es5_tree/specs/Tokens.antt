@@ -23,13 +23,19 @@ pub data Form : Type 0 where
   Str : List ℕ → Form
   Mark : EsMark → Form
 
--- A piece of the form stands at the front of the bytes, and the rest is behind it (7.2 to 7.4, 7.6, 7.8.3, 7.8.4, 7.7).
+-- a piece of the form stands at the front of the bytes, and the rest is behind it
 abbrev pub Stands : Form → List ℕ → List ℕ → Type 0
+-- 7.2, 7.3: white space and line terminators
 Stands Space bytes rest = (byte : ℕ) × (bytes ≡ byte ∷ rest) × (class_of byte ≡ Blank)
+-- 7.4: a whole comment
 Stands Comment bytes rest = (more : List ℕ) × (n : ℕ) × (bytes ≡ 47 ∷ more) × (comment_size more ≡ Some n) × (rest ≡ drop n more)
+-- 7.6: the longest run of identifier parts
 Stands (Word name) bytes rest = (byte : ℕ) × (more : List ℕ) × (bytes ≡ byte ∷ more) × (class_of byte ≡ Letter) × (name ≡ byte ∷ take_while is_name_part more) × (bytes ≡ name ++ rest)
+-- 7.8.3: the whole run of digits
 Stands (Num value) bytes rest = (numeral (take_while is_digit bytes) ≡ Some value) × (bytes ≡ take_while is_digit bytes ++ rest) × (goes_on rest ≡ false)
+-- 7.8.4: characters between quotes
 Stands (Str text) bytes rest = (quote : ℕ) × (more : List ℕ) × (bytes ≡ quote ∷ more) × (class_of quote ≡ Quote) × Characters quote text more rest
+-- 7.7: the longest sign
 Stands (Mark mark) bytes rest = (n : ℕ) × (sign_at bytes ≡ Some (sign.Mark mark, n)) × (rest ≡ drop n bytes)
 
 -- no piece stands at the front of the bytes

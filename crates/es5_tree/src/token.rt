@@ -4,7 +4,7 @@ use opal_base::{NoMemory, Pos, Units};
 use std::alloc::Global;
 use std::marker::Model;
 
-/// The signs of scripts: the punctuators of ECMA-262 5.1, 7.7 and 7.8.5, as far as the profile goes.
+/// The signs of scripts: the punctuators of ECMA-262 5.1, 7.7, as far as the profile goes.
 #[derive(Clone, Copy, Debug, PartialEq, Eq)]
 pub enum EsMark {
     OpenBrace,
