@@ -16,3 +16,5 @@ pub mod Samples
 pub mod Sites
 pub mod ObjectLinks
 pub mod ObjectProperties
+pub mod ObjectRising
+pub mod ObjectKeys
