@@ -2,5 +2,4 @@ pub mod Loops
 pub mod Digits
 pub mod Lists
 pub mod Heaps
-pub mod Rising
 pub mod Listed

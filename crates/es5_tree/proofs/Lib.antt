@@ -21,3 +21,5 @@ pub mod Cells
 pub mod Read
 pub mod ObjectLinks
 pub mod ObjectProperties
+pub mod ObjectRising
+pub mod ObjectKeys

@@ -6,8 +6,8 @@ use Rattle.std.proofs.lemmas.List.{get_or_past, get_or_append_left, get_or_push}
 use Rattle.std.specs.List.{list_any, IsDistinct, AllByRecursion}
 use Rattle.std.proofs.lemmas.Map.Steps.{length-le_from_distinct_below}
 use Rattle.std.proofs.lemmas.Map.Keys.{IsDistinct-cons}
-use Rattle.es5_tree.specs.Objects.Cells.{Cell, Kind, Object, new_cell}
-use Rattle.es5_tree.specs.Objects.Links.{cell_at, set_cell, link_at, next, after, first_of_chain, chain, in_chain, with_link, Within, LinksWithin, NoCycle}
+use Rattle.es5_tree.specs.Objects.Cells.{Cell, Object, new_cell}
+use Rattle.es5_tree.specs.Objects.Links.{cell_at, link_at, next, after, first_of_chain, chain, in_chain, Within, LinksWithin, NoCycle}
 
 -- ---- where links lead to
 

@@ -1,12 +1,11 @@
 -- Own properties after a write and after a deletion, and the names of indices.
-use Rattle.std.proofs.Common.{◌≡◌, ◌≢◌, ℕ, zero, suc, ◌+◌, ◌-◌, ◌*◌, ◌<◌, ◌≤◌, ◌↔◌, Bool, true, false, cond, not, ◌&&◌, ◌⊎◌, nat_lt, ltb, List, [], ◌∷◌, map, Option, Some, None, refl, sym, ap, subst, ◌∙◌, inl, inr, arith, ⊎_elim, bytes_eq, rules, if◌then◌else◌, filter, ltb-true, lt-ltb}
-use Rattle.std.proofs.lemmas.Bool.{cases_lt, false≢true}
+use Rattle.std.proofs.Common.{◌≡◌, ℕ, zero, suc, ◌+◌, ◌-◌, ◌<◌, Bool, true, false, ◌&&◌, ◌⊎◌, nat_lt, List, [], ◌∷◌, map, Option, Some, None, refl, sym, ap, subst, ◌∙◌, inl, inr, arith, ⊎_elim, bytes_eq, if◌then◌else◌, ltb-true, lt-ltb}
 use Rattle.std.proofs.lemmas.Slice.Eq.{bytes_eq-Decides}
 use Rattle.std.proofs.lemmas.Int.Digits.{number_digits_of}
 use Rattle.std.specs.Int.Digits.{digits_of, number_from_digits}
 use Rattle.es5_tree.specs.State.{Text, Val, find_own}
-use Rattle.es5_tree.specs.Objects.Names.{decimal, number_of, index_of, index_end, is_length}
-use Rattle.es5_tree.specs.Objects.Cells.{Cell, own, put, delete, is_array_length, is_array, with_property, without_property, with_value}
+use Rattle.es5_tree.specs.Objects.Names.{decimal, number_of, index_of, index_end}
+use Rattle.es5_tree.specs.Objects.Cells.{Cell, own, put, delete, is_array_length, with_property, without_property, with_value}
 
 true_or_false : (a : Bool) → (a ≡ true) ⊎ (a ≡ false)
 true_or_false true = inl refl

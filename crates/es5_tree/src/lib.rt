@@ -17,7 +17,10 @@ pub use laws::{
     writes_in_turn, written_tokens,
 };
 pub use lexing::{Class, Restriction};
-pub use object_laws::{chains_are_whole, indices_are_spelled, properties_change_apart};
+pub use object_laws::{
+    chains_are_whole, indices_are_spelled, keys_are_names, properties_change_apart,
+    rising_is_sorted,
+};
 pub use reserved::is_reserved;
 pub use safe_int::SafeInt;
 pub use sign::{SIGNS, Sign};

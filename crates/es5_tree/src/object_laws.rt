@@ -1,6 +1,6 @@
 //! Laws of the definitions of objects, each the contract of a function that does nothing.
 
-ghost use Rattle.es5_tree.specs.Objects.Laws.{ChainsAreWhole, IndicesAreSpelled, PutIsRead, OthersStay, DeletedIsGone, OthersStayUndeleted};
+ghost use Rattle.es5_tree.specs.Objects.Laws.{ChainsAreWhole, IndicesAreSpelled, PutIsRead, OthersStay, DeletedIsGone, OthersStayUndeleted, KeysAreNames, RisingIsSorted};
 
 /// Where links make no cycle, following more links than there are objects finds no further ones.
 pub fn chains_are_whole()
@@ -19,4 +19,15 @@ pub fn properties_change_apart()
     ensures gone { DeletedIsGone }
     ensures put_apart { OthersStay }
     ensures delete_apart { OthersStayUndeleted }
+{}
+
+/// The names that are listed are those of the own properties, but for the `length` of arrays and
+/// arguments objects.
+pub fn keys_are_names()
+    ensures { KeysAreNames }
+{}
+
+/// Numbers in rising order are their one sorted arrangement.
+pub fn rising_is_sorted()
+    ensures { RisingIsSorted }
 {}

@@ -1,8 +1,10 @@
 -- What the definitions of objects come to.
-use Rattle.std.specs.Prelude.{◌≡◌, ℕ, ◌<◌, ◌≤◌, false, List, length, Option, Some, None, ◌↔◌}
+use Rattle.std.specs.Prelude.{◌≡◌, ℕ, ◌<◌, ◌≤◌, false, not, ◌&&◌, List, length, Option, Some, None, is_some, ◌↔◌, bytes_eq, IsPermutation, IsSorted}
+use Rattle.std.specs.List.{list_any}
+use Rattle.std.specs.Ordering.{nat_cmp}
 use Rattle.es5_tree.specs.State.{Text, Val}
-use Rattle.es5_tree.specs.Objects.Names.{decimal, index_of, index_end}
-use Rattle.es5_tree.specs.Objects.Cells.{Cell, own, put, delete, is_array_length}
+use Rattle.es5_tree.specs.Objects.Names.{decimal, index_of, index_end, is_length}
+use Rattle.es5_tree.specs.Objects.Cells.{Cell, own, put, delete, keys, rising, has_length, is_array_length}
 use Rattle.es5_tree.specs.Objects.Links.{first_of_chain, chain, Within, LinksWithin, NoCycle}
 
 -- following more links than there are objects finds no further ones
@@ -27,3 +29,11 @@ DeletedIsGone = (c : Cell) (name : Text) → is_array_length c name ≡ false �
 -- a deletion leaves the other properties
 abbrev pub OthersStayUndeleted : Type 0
 OthersStayUndeleted = (c : Cell) (name other : Text) → (name ≡ other → ⊥) → own (delete c name) other ≡ own c other
+
+-- Object.keys lists a name exactly where it is an own property, but for the `length` of arrays and arguments objects
+abbrev pub KeysAreNames : Type 0
+KeysAreNames = (c : Cell) (name : Text) → list_any (bytes_eq name) (keys c) ≡ (is_some (own c name) && not (has_length c.kind && is_length name))
+
+-- the numbers in rising order are their one arrangement in which none is below the one before it
+abbrev pub RisingIsSorted : Type 0
+RisingIsSorted = (ns ms : List ℕ) → IsPermutation ns ms → IsSorted nat_cmp ms → ms ≡ rising ns

@@ -2,7 +2,7 @@
 use Rattle.std.specs.Prelude.{◌≡◌, ℕ, zero, suc, ◌<◌, Bool, List, [], ◌∷◌, length, slice_index_or, slice_set, Option, Some, None, IfSome, nat_eq}
 use Rattle.std.specs.List.{list_any}
 use Rattle.es5_tree.specs.State.{Text, Val, first}
-use Rattle.es5_tree.specs.Objects.Cells.{Cell, Kind, Object, new_cell, own}
+use Rattle.es5_tree.specs.Objects.Cells.{Cell, Object, new_cell, own}
 
 -- an object's number is its place in the list; past the end stands an empty one
 unfoldable pub cell_at : List Cell → ℕ → Cell

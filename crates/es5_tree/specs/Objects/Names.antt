@@ -1,5 +1,5 @@
 -- Names of properties: texts, and among them the array indices (ECMA-262 5.1, sections 8.10 and 15.4).
-use Rattle.std.specs.Prelude.{ℕ, zero, suc, ◌+◌, ◌-◌, Bool, ◌&&◌, if◌then◌else◌, nat_lt, List, [], ◌∷◌, map, Option, Some, None, bytes_eq, codes}
+use Rattle.std.specs.Prelude.{ℕ, zero, suc, ◌+◌, ◌-◌, Bool, ◌&&◌, if◌then◌else◌, nat_lt, [], ◌∷◌, map, Option, Some, None, bytes_eq, codes}
 use Rattle.std.specs.Int.Digits.{digits_of, number_from_digits}
 use Rattle.es5_tree.specs.State.{Text}
 

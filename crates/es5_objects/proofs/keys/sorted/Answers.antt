@@ -1,4 +1,4 @@
-use Rattle.es5_objects.proofs.Rising.{sorted_is_rising}
+use Rattle.es5_tree.proofs.ObjectRising.{sorted_is_rising}
 use Rattle.es5_objects.proofs.keys.sorted.Goals as goal
 
 pub returns-in-Ok : goal.returns-in-Ok
