@@ -1,5 +1,6 @@
 -- What stands at the front, and one step of the loop over the characters of a literal.
 use Rattle.std.proofs.Common.{◌≡◌, ℕ, ◌+◌, ◌-◌, ◌*◌, nat_lt, lt-ltb, ◌<◌, ◌≤◌, cond, List, [], ◌∷◌, ◌++◌, Option, Some, None, true, false, take, drop, length, get_or, slice_index, take_while, refl, sym, ap, ◌∙◌, subst, arith, add-one, drop-cons, append_assoc}
+use Rattle.std.specs.Prelude.{pos}
 use Rattle.std.specs.List.{prefix_len}
 use Rattle.std.proofs.lemmas.List.{take_rest, drop-drop, append-nil, drop_all, take-append-drop, length-take-le}
 use Rattle.es5_tree.specs.declared.token.EsTokenKind.TheVariants as kind
@@ -59,7 +60,7 @@ other_at bytes (Some piece) l c n h = h
 
 -- ---- numerals
 
-pub number_at : (bytes : List ℕ) (size value : ℕ) → size ≡ prefix_len is_digit bytes → size ≤ length bytes → goes_on (from bytes size) ≡ false → numeral (take size bytes) ≡ Some value → PieceAt bytes (Some (kind.Num value)) size
+pub number_at : (bytes : List ℕ) (size value : ℕ) → size ≡ prefix_len is_digit bytes → size ≤ length bytes → goes_on (from bytes size) ≡ false → numeral (take size bytes) ≡ Some value → PieceAt bytes (Some (kind.Num (pos value))) size
 number_at bytes size value e w g n =
     let digits : take size bytes ≡ take_while is_digit bytes = ap (λ k. take k bytes) e in
     record {

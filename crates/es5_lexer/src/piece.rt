@@ -11,7 +11,7 @@ use crate::literal::literal;
 use crate::numeral::{goes_on, numeral};
 use crate::restriction::allows;
 use crate::sign::sign_at;
-use es5_tree::{Class, EsTokenKind, Restriction, Sign, word_units};
+use es5_tree::{Class, EsTokenKind, Restriction, SafeInt, Sign, word_units};
 use opal_base::NoMemory;
 use std::alloc::Global;
 
@@ -64,7 +64,7 @@ fn number(bytes: &[u8]) -> Option<Piece>
     }
     match numeral(&bytes[..size]) {
         Some(value) => Some(Piece {
-            kind: Some(EsTokenKind::Num(value)),
+            kind: Some(EsTokenKind::Num(SafeInt::from_u64(value))),
             size,
         }),
         None => None,

@@ -15,7 +15,8 @@ fn push_kind(alloc: Global, shown: &mut String, kind: &EsTokenKind) -> Result<()
     match kind {
         EsTokenKind::Word(name) => push_units(shown, name.as_slice()),
         EsTokenKind::Num(value) => {
-            let digits = format!(in alloc; "{value}")?;
+            let number = value.value();
+            let digits = format!(in alloc; "{number}")?;
             shown.push_str(digits.as_str())
         }
         EsTokenKind::Str(text) => {

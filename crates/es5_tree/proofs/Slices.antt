@@ -1,5 +1,6 @@
 -- The slices of bytes' tokens, and the values of their numerals.
 use Rattle.std.proofs.Common.{◌≡◌, ℕ, ◌+◌, ◌<◌, ◌≤◌, ◌^◌, Bool, true, false, cond, ◌||◌, nat_lt, List, [], ◌∷◌, ◌++◌, Option, Some, None, length, refl, sym, ap, subst, arith, length-append}
+use Rattle.std.specs.Prelude.{pos}
 use Rattle.std.proofs.lemmas.Grind.{common_steps}
 use Rattle.std.specs.List.{AllByRecursion}
 use Rattle.es5_tree.specs.declared.token.EsToken.{EsToken}
@@ -45,7 +46,7 @@ unfolding numeral
 numeral_safe digits found e = bounded (is_no_numeral digits) (nat_lt 9007199254740991 (value 0 digits)) (value 0 digits) found (below_safe (value 0 digits)) e
 
 kind_safe : (form : Form) (bytes rest : List ℕ) → Stands form bytes rest → (k : EsTokenKind) → kind_of form ≡ Some k → IsSafeKind k
-kind_safe (Num found) bytes rest h k e = subst IsSafeKind {x = token.Num found} {y = k} (let same : token.Num found ≡ k = cc in same) (numeral_safe _ found h.0)
+kind_safe (Num found) bytes rest h k e = subst IsSafeKind {x = token.Num (pos found)} {y = k} (let same : token.Num (pos found) ≡ k = cc in same) (found, refl, numeral_safe _ found h.0)
 kind_safe (Word name) bytes rest h k e = subst IsSafeKind {x = token.Word name} {y = k} (let same : token.Word name ≡ k = cc in same) tt
 kind_safe (Str text) bytes rest h k e = subst IsSafeKind {x = token.Str text} {y = k} (let same : token.Str text ≡ k = cc in same) tt
 kind_safe (Mark mark) bytes rest h k e = subst IsSafeKind {x = token.Mark mark} {y = k} (let same : token.Mark mark ≡ k = cc in same) tt

@@ -1,5 +1,5 @@
 -- The tokens of bytes, and the first byte where none begins (ECMA-262 5.1, section 7).
-use Rattle.std.specs.Prelude.{◌≡◌, ℕ, ◌+◌, ◌<◌, ◌≤◌, ◌^◌, List, [], ◌∷◌, ◌++◌, length, Option, None, Some}
+use Rattle.std.specs.Prelude.{◌≡◌, ℕ, ◌+◌, ◌<◌, ◌≤◌, ◌^◌, List, [], ◌∷◌, ◌++◌, length, pos, Option, None, Some}
 use Rattle.opal_base.specs.Place.{place_at}
 use Rattle.opal_base.specs.declared.place.Pos.{Pos}
 use Rattle.es5_tree.specs.declared.token.EsStop.{EsStop}
@@ -34,9 +34,9 @@ abbrev pub Ascends : ℕ → List EsToken → Type 0
 Ascends at [] = Unit {0}
 Ascends at (token ∷ tokens) = (at ≤ token.from) × (token.from ≤ token.to) × Ascends token.to tokens
 
--- a numeral's value is at most 2^53-1
+-- a numeral's value is from 0 to 2^53-1
 abbrev pub IsSafeKind : EsTokenKind → Type 0
-IsSafeKind (kind.Num value) = value < 2 ^ 53
+IsSafeKind (kind.Num number) = (value : ℕ) × (number ≡ pos value) × (value < 2 ^ 53)
 IsSafeKind other = Unit {0}
 
 abbrev pub IsSafe : EsToken → Type 0
@@ -53,9 +53,9 @@ pub record NoTokenAt (bytes : List ℕ) (offset : ℕ) : Type 0 where
 
 -- the place of such a byte
 abbrev pub NoTokenPlace : List ℕ → Pos → Type 0
-NoTokenPlace bytes pos = (offset : ℕ) × NoTokenAt bytes offset × (pos ≡ place_at bytes offset)
+NoTokenPlace bytes place = (offset : ℕ) × NoTokenAt bytes offset × (place ≡ place_at bytes offset)
 
 -- memory ran out, or the place is one of these
 abbrev pub StopsAt : (Pos → Type 0) → EsStop → Type 0
 StopsAt P NoMemory = Unit {0}
-StopsAt P (NotScript pos) = P pos
+StopsAt P (NotScript place) = P place

@@ -1,5 +1,5 @@
 -- The lexical grammar of scripts (ECMA-262 5.1, section 7): the pieces that bytes are cut into.
-use Rattle.std.specs.Prelude.{◌≡◌, ℕ, Bool, true, false, ◌||◌, List, [], ◌∷◌, ◌++◌, drop, codes, bytes_eq, Option, None, Some, if◌then◌else◌, take_while}
+use Rattle.std.specs.Prelude.{◌≡◌, ℕ, Bool, true, false, ◌||◌, List, [], ◌∷◌, ◌++◌, drop, codes, pos, bytes_eq, Option, None, Some, if◌then◌else◌, take_while}
 use Rattle.std.specs.List.{list_any}
 use Rattle.es5_tree.specs.declared.lexing.Class.TheVariants.{Blank, Letter, Quote}
 use Rattle.es5_tree.specs.declared.lexing.Restriction.{Restriction}
@@ -47,7 +47,7 @@ abbrev pub kind_of : Form → Option EsTokenKind
 kind_of Space = None
 kind_of Comment = None
 kind_of (Word name) = Some (kind.Word name)
-kind_of (Num value) = Some (kind.Num value)
+kind_of (Num value) = Some (kind.Num (pos value))
 kind_of (Str text) = Some (kind.Str text)
 kind_of (Mark mark) = Some (kind.Mark mark)
 

@@ -1,4 +1,4 @@
-ghost use Rattle.std.specs.Prelude.{◌≡◌, pos, SomeIff};
+ghost use Rattle.std.specs.Prelude.{◌≡◌, ◌≤◌, pos, SomeIff};
 ghost use Rattle.es5_tree.specs.Objects.Numbers.{IsSafe};
 
 use std::marker::Model;
@@ -43,6 +43,16 @@ impl SafeInt {
     {
         SafeInt {
             value: i64::from(value),
+        }
+    }
+
+    /// The number, which is at most 2^53-1.
+    pub fn from_u64(value: u64) -> SafeInt
+        requires { value ≤ 9007199254740991 }
+        ensures { result ≡ pos value }
+    {
+        SafeInt {
+            value: value as i64,
         }
     }
 

@@ -1,5 +1,6 @@
 ghost use Rattle.std.specs.Prelude.{◌≡◌, ◌<◌, [], ◌∷◌, ◌++◌, length, slice_get, OnOk, OnErr, Some};
 
+use crate::safe_int::SafeInt;
 use opal_base::{NoMemory, Pos, Units};
 use std::alloc::Global;
 use std::marker::Model;
@@ -40,8 +41,8 @@ pub enum EsMark {
 pub enum EsTokenKind {
     /// A name or a reserved word.
     Word(Units),
-    /// A numeral, with its value, at most 2^53-1.
-    Num(u64),
+    /// A numeral, with its value, which isn't negative.
+    Num(SafeInt),
     /// A string literal, with the text that it stands for.
     Str(Units),
     Mark(EsMark),
