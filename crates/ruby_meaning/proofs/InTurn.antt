@@ -9,6 +9,7 @@ use Rattle.opal_base.specs.Text.{utf8_of}
 use Rattle.ruby_meaning.specs.declared.value.Value.TheVariants as value
 use Rattle.ruby_meaning.specs.declared.tree.Kind.{out-Kind}
 use Rattle.ruby_meaning.specs.declared.tree.Kind.TheVariants as kind
+use Rattle.ruby_meaning.specs.declared.tree.Node.{Node}
 use Rattle.ruby_meaning.specs.State.{Text, State, Result, Val, Outcome, Ends, Starved, andthen, first_state}
 use Rattle.ruby_meaning.specs.Eval.{Eval, act, in_order, values, call, onval, puts_text, eval_to}
 use Rattle.ruby_meaning.specs.Lines.{text_node, puts_node, puts_nodes, program_of}

@@ -1,11 +1,11 @@
 -- Loading a program comes to one thing.
-use Rattle.std.proofs.Common.{◌≡◌, ◌⊎◌, ℕ, zero, suc, ◌<◌, ◌≤◌, Bool, true, false, List, [], ◌∷◌, length, take, Option, None, Some, refl, sym, ap, ap₂, ◌∙◌, subst, arith, inl, inr, ⊎_elim}
+use Rattle.std.proofs.Common.{◌≡◌, ◌≢◌, ◌⊎◌, ℕ, zero, suc, ◌+◌, ◌<◌, ◌≤◌, Bool, true, false, List, [], ◌∷◌, length, take, Option, None, Some, refl, sym, ap, ap₂, ◌∙◌, subst, arith, inl, inr, ⊎_elim}
 use Rattle.std.specs.List.{flat_map}
-use Rattle.std.specs.Str.{IsUtf8, is_utf8, IsValidUpTo}
+use Rattle.std.specs.Str.{IsUtf8, is_utf8, chars, IsValidUpTo}
 use Rattle.std.specs.Char.Escape.{encode_utf16}
 use Rattle.std.proofs.lemmas.List.{take_all}
 use Rattle.std.proofs.lemmas.Str.{IsUtf8-from_is_utf8, is_utf8-from_IsUtf8, IsUtf8-nil}
-use Rattle.std.proofs.lemmas.Bool.{cases_lt}
+use Rattle.std.proofs.lemmas.Bool.{cases_lt, false≢true}
 use Rattle.opal_base.specs.declared.place.Pos.{Pos}
 use Rattle.opal_base.specs.Outside.{FileMap}
 use Rattle.opal_base.specs.Place.{place_at}
@@ -13,6 +13,7 @@ use Rattle.opal_base.specs.Text.{IsDecoded}
 use Rattle.opal_base.proofs.Texts.{one_text_is, one_offset_is, decoded_or_not_is}
 use Rattle.ruby_meaning.specs.declared.construct.Construct.{Construct}
 use Rattle.ruby_meaning.specs.declared.construct.Construct.TheVariants.{FileTooLong, BadByte, NotYet}
+use Rattle.ruby_meaning.specs.declared.tree.Bundle.{Bundle}
 use Rattle.ruby_meaning.specs.declared.tree.Program.{Program}
 use Rattle.ruby_meaning.specs.Lines.{Spells, IsNotYet, place}
 use Rattle.ruby_meaning.specs.Load.{most_bytes, IsProgram, IsTooLong, IsBadByte, IsUnbuilt, IsRefused, Loaded, Whole, Missing, Refused, Loads}
