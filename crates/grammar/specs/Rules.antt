@@ -1,8 +1,9 @@
 -- The rules of a grammar, as data.
-use Rattle.std.specs.Prelude.{ℕ, max, Bool, List, Option, Some, None}
+use Rattle.std.specs.Prelude.{ℕ, suc, max, Bool, List, Option, Some, None}
 use Rattle.grammar.specs.Forms.{deepest}
 
--- what a rule gives: a token, a node, a number, a value with a number that tells how it was written, a pair, a list, a value or none
+-- what a rule gives: a token, a node, a number, a value with a number that tells how it was written, a pair, a list, a value
+-- or none, a value under a node that is still to be made
 pub data Sort : Type 0 where
   leaf : Sort
   tree : Sort
@@ -11,6 +12,10 @@ pub data Sort : Type 0 where
   pair : Sort → Sort → Sort
   list : Sort → Sort
   optional : Sort → Sort
+  under : Sort → Sort
+
+pub record Held (A : Type 0) : Type 0 where
+  pub value : A
 
 abbrev pub El : Type 0 → Type 0 → Sort → Type 0
 El T N leaf = T
@@ -20,6 +25,7 @@ El T N (marked s) = El T N s × ℕ
 El T N (pair s r) = El T N s × El T N r
 El T N (list s) = List (El T N s)
 El T N (optional s) = Option (El T N s)
+El T N (under s) = Held (El T N s)
 
 abbrev pub deep_if : {A : Type 0} → (A → ℕ) → Option A → ℕ
 deep_if d None = 0
@@ -34,6 +40,7 @@ deep T depth (marked s) a = deep T depth s (a.0)
 deep T depth (pair s r) a = max (deep T depth s (a.0)) (deep T depth r (a.1))
 deep T depth (list s) a = deepest (deep T depth s) a
 deep T depth (optional s) a = deep_if (deep T depth s) a
+deep T depth (under s) a = suc (deep T depth s a.value)
 
 -- T is the tokens, N the nodes, K the names of productions, of which each has its sort.
 pub data Rule (T N K : Type 0) (sorts : K → Sort) : Sort → Type 0 where

@@ -3,8 +3,10 @@
 
 mod construct;
 mod form;
+mod grammar_laws;
 mod laws;
 mod open_texts;
+mod production;
 mod spot;
 mod table;
 mod token;
@@ -17,8 +19,10 @@ pub use construct::{Construct, Stop};
 pub use form::{
     Bracket, Class, Ending, Form, MethodPlace, Mode, Opener, Place, Reserved, Spelling, Stand,
 };
+pub use grammar_laws::{beginnings_are_fronts, one_program, one_token_tells};
 pub use laws::{one_load, one_reading, puts_in_turn, runs};
 pub use open_texts::OpenTexts;
+pub use production::{Part, Production, Sign};
 pub use spot::Spot;
 pub use table::{BLOCK_BEGIN, BLOCK_END, END_LINE, MARKS, METHOD_MARKS, RESERVED};
 pub use token::{Mark, Token, TokenKind, Tokens, Word};

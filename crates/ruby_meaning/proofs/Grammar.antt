@@ -1,0 +1,6 @@
+pub mod Codes
+pub mod Depths
+pub mod ActionDepths
+pub mod Checks
+pub mod TableMeets
+pub mod Programs

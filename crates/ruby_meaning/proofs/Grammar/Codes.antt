@@ -1,0 +1,184 @@
+-- Each class is below `size`.
+use Rattle.std.proofs.Common.{◌<◌, arith}
+use Rattle.ruby_meaning.specs.declared.production.Sign.{Sign}
+use Rattle.ruby_meaning.specs.declared.production.Sign.TheVariants as sign
+use Rattle.ruby_meaning.specs.declared.token.Mark.{Mark}
+use Rattle.ruby_meaning.specs.declared.token.Mark.TheVariants as mark
+use Rattle.ruby_meaning.specs.declared.token.Word.{Word}
+use Rattle.ruby_meaning.specs.declared.token.Word.TheVariants as word
+use Rattle.ruby_meaning.specs.Grammar.Classes.{size, word_code, mark_code, marked_code, code_of}
+
+word_within : (w : Word) → word_code w < size
+word_within word.Alias = omega arith
+word_within word.And = omega arith
+word_within word.Begin = omega arith
+word_within word.Break = omega arith
+word_within word.Case = omega arith
+word_within word.Class = omega arith
+word_within word.Def = omega arith
+word_within word.Do = omega arith
+word_within word.Else = omega arith
+word_within word.Elsif = omega arith
+word_within word.End = omega arith
+word_within word.Ensure = omega arith
+word_within word.False = omega arith
+word_within word.For = omega arith
+word_within word.If = omega arith
+word_within word.In = omega arith
+word_within word.Module = omega arith
+word_within word.Next = omega arith
+word_within word.Nil = omega arith
+word_within word.Not = omega arith
+word_within word.Or = omega arith
+word_within word.Rescue = omega arith
+word_within word.Retry = omega arith
+word_within word.Return = omega arith
+word_within word.Self_ = omega arith
+word_within word.Super = omega arith
+word_within word.Then = omega arith
+word_within word.True = omega arith
+word_within word.Undef = omega arith
+word_within word.Unless = omega arith
+word_within word.Until = omega arith
+word_within word.When = omega arith
+word_within word.While = omega arith
+word_within word.Yield = omega arith
+
+mark_within : (m : Mark) → mark_code m < size
+mark_within mark.Ampersand = omega arith
+mark_within mark.And = omega arith
+mark_within mark.AndSet = omega arith
+mark_within mark.Arrow = omega arith
+mark_within mark.Assign = omega arith
+mark_within mark.Bang = omega arith
+mark_within mark.BraceClose = omega arith
+mark_within mark.BraceOpen = omega arith
+mark_within mark.BracketClose = omega arith
+mark_within mark.BracketOpen = omega arith
+mark_within mark.Caret = omega arith
+mark_within mark.Colon = omega arith
+mark_within mark.ColonColon = omega arith
+mark_within mark.Comma = omega arith
+mark_within mark.Compare = omega arith
+mark_within mark.Dot = omega arith
+mark_within mark.DotDot = omega arith
+mark_within mark.DotDotDot = omega arith
+mark_within mark.Equal = omega arith
+mark_within mark.FatArrow = omega arith
+mark_within mark.Greater = omega arith
+mark_within mark.GreaterEqual = omega arith
+mark_within mark.Index = omega arith
+mark_within mark.IndexSet = omega arith
+mark_within mark.Less = omega arith
+mark_within mark.LessEqual = omega arith
+mark_within mark.ListEndRound = omega arith
+mark_within mark.ListEndSquare = omega arith
+mark_within mark.Minus = omega arith
+mark_within mark.MinusSet = omega arith
+mark_within mark.Negate = omega arith
+mark_within mark.NotEqual = omega arith
+mark_within mark.Or = omega arith
+mark_within mark.OrSet = omega arith
+mark_within mark.ParenClose = omega arith
+mark_within mark.ParenOpen = omega arith
+mark_within mark.Percent = omega arith
+mark_within mark.PercentSet = omega arith
+mark_within mark.Pipe = omega arith
+mark_within mark.Plus = omega arith
+mark_within mark.PlusSet = omega arith
+mark_within mark.Power = omega arith
+mark_within mark.PowerSet = omega arith
+mark_within mark.Question = omega arith
+mark_within mark.Semicolon = omega arith
+mark_within mark.ShiftLeft = omega arith
+mark_within mark.ShiftLeftSet = omega arith
+mark_within mark.ShiftRight = omega arith
+mark_within mark.Slash = omega arith
+mark_within mark.SlashSet = omega arith
+mark_within mark.Star = omega arith
+mark_within mark.StarSet = omega arith
+mark_within mark.SymbolsRound = omega arith
+mark_within mark.SymbolsSquare = omega arith
+mark_within mark.Tilde = omega arith
+mark_within mark.TripleEqual = omega arith
+mark_within mark.WordsRound = omega arith
+mark_within mark.WordsSquare = omega arith
+
+marked_within : (m : Mark) → marked_code m < size
+marked_within mark.Ampersand = omega arith
+marked_within mark.And = omega arith
+marked_within mark.AndSet = omega arith
+marked_within mark.Arrow = omega arith
+marked_within mark.Assign = omega arith
+marked_within mark.Bang = omega arith
+marked_within mark.BraceClose = omega arith
+marked_within mark.BraceOpen = omega arith
+marked_within mark.BracketClose = omega arith
+marked_within mark.BracketOpen = omega arith
+marked_within mark.Caret = omega arith
+marked_within mark.Colon = omega arith
+marked_within mark.ColonColon = omega arith
+marked_within mark.Comma = omega arith
+marked_within mark.Compare = omega arith
+marked_within mark.Dot = omega arith
+marked_within mark.DotDot = omega arith
+marked_within mark.DotDotDot = omega arith
+marked_within mark.Equal = omega arith
+marked_within mark.FatArrow = omega arith
+marked_within mark.Greater = omega arith
+marked_within mark.GreaterEqual = omega arith
+marked_within mark.Index = omega arith
+marked_within mark.IndexSet = omega arith
+marked_within mark.Less = omega arith
+marked_within mark.LessEqual = omega arith
+marked_within mark.ListEndRound = omega arith
+marked_within mark.ListEndSquare = omega arith
+marked_within mark.Minus = omega arith
+marked_within mark.MinusSet = omega arith
+marked_within mark.Negate = omega arith
+marked_within mark.NotEqual = omega arith
+marked_within mark.Or = omega arith
+marked_within mark.OrSet = omega arith
+marked_within mark.ParenClose = omega arith
+marked_within mark.ParenOpen = omega arith
+marked_within mark.Percent = omega arith
+marked_within mark.PercentSet = omega arith
+marked_within mark.Pipe = omega arith
+marked_within mark.Plus = omega arith
+marked_within mark.PlusSet = omega arith
+marked_within mark.Power = omega arith
+marked_within mark.PowerSet = omega arith
+marked_within mark.Question = omega arith
+marked_within mark.Semicolon = omega arith
+marked_within mark.ShiftLeft = omega arith
+marked_within mark.ShiftLeftSet = omega arith
+marked_within mark.ShiftRight = omega arith
+marked_within mark.Slash = omega arith
+marked_within mark.SlashSet = omega arith
+marked_within mark.Star = omega arith
+marked_within mark.StarSet = omega arith
+marked_within mark.SymbolsRound = omega arith
+marked_within mark.SymbolsSquare = omega arith
+marked_within mark.Tilde = omega arith
+marked_within mark.TripleEqual = omega arith
+marked_within mark.WordsRound = omega arith
+marked_within mark.WordsSquare = omega arith
+
+pub code_within : (s : Sign) → code_of s < size
+code_within sign.Name = omega arith
+code_within sign.Const = omega arith
+code_within sign.Ivar = omega arith
+code_within sign.Gvar = omega arith
+code_within sign.Label = omega arith
+code_within sign.Int = omega arith
+code_within sign.Text = omega arith
+code_within sign.TextBegin = omega arith
+code_within sign.TextEnd = omega arith
+code_within sign.PartBegin = omega arith
+code_within sign.PartEnd = omega arith
+code_within sign.Newline = omega arith
+code_within sign.Eof = omega arith
+code_within sign.CallOpen = omega arith
+code_within (sign.Marked m) = marked_within m
+code_within (sign.Keyword w) = word_within w
+code_within (sign.Op m) = mark_within m

@@ -1,0 +1,10 @@
+pub mod Classes
+pub mod Seen
+pub mod Actions
+pub mod Names
+pub mod Calls
+pub mod Primaries
+pub mod Expressions
+pub mod Statements
+pub mod Table
+pub mod Laws

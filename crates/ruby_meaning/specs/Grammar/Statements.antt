@@ -1,0 +1,69 @@
+-- Statements.
+use Rattle.std.specs.Prelude.{ℕ, Bool, true, false, not, ◌∷◌}
+use Rattle.grammar.specs.Rules.{leaf, tree, marked, pair, list, optional, token, token_where, sequence, choice, view, node, many, suffixes, needs, named}
+use Rattle.grammar.specs.CommonRules.{◌or◌, behind, maybe, separated}
+use Rattle.ruby_meaning.specs.declared.production.Production.TheVariants as p
+use Rattle.ruby_meaning.specs.declared.production.Sign.TheVariants as sign
+use Rattle.ruby_meaning.specs.declared.token.Mark.TheVariants as mark
+use Rattle.ruby_meaning.specs.declared.token.Word.TheVariants as word
+use Rattle.ruby_meaning.specs.declared.tree.Kind.TheVariants as kind
+use Rattle.ruby_meaning.specs.Grammar.Seen.{Seen}
+use Rattle.ruby_meaning.specs.Grammar.Classes.{a, op, key}
+use Rattle.ruby_meaning.specs.Grammar.Names.{R, part}
+use Rattle.ruby_meaning.specs.Grammar.Actions.{make, start, span_of, from_token, to_end, other, full_name, full_names, name_span, names_span, joined, modified, if_behind, unless_behind, loop_behind, until_condition, statements, sequence_of}
+use Rattle.ruby_meaning.specs.Grammar.Primaries.{methods}
+use Rattle.ruby_meaning.specs.Grammar.Expressions.{command_level}
+
+abbrev pub separators : ℕ → Bool
+separators = a sign.Newline or op mark.Semicolon
+
+-- a `=` directly behind a name
+abbrev pub is_attached : Seen → Bool
+is_attached t = not t.token.blank_before
+
+-- mname
+unfoldable pub method_name : R (pair leaf (optional leaf))
+method_name = sequence (token methods) (maybe (token_where (op mark.Assign) is_attached))
+
+module _ (takes_do : Bool) (in_rescue : Bool) where
+  -- expr : nexpr (("and"|"or") nexpr)*      nexpr : "not" nexpr | cmd
+  unfoldable pub not_expression : R (marked tree)
+  not_expression = choice (node {s = pair leaf tree} (λ x. (make (kind.Not x.1) (from_token x.0 x.1) (start x.0), other)) (sequence (token (key word.Not)) (named (part p.NotExpression takes_do in_rescue))))
+      (command_level takes_do in_rescue)
+
+  unfoldable pub expression : R (marked tree)
+  expression = suffixes {r = pair leaf tree} 1 not_expression (sequence (token (key word.And or key word.Or)) (named (part p.NotExpression takes_do in_rescue))) joined
+
+module _ (in_rescue : Bool) where
+  -- "alias" mname mname
+  unfoldable pub alias_statement : R (marked tree)
+  alias_statement = node {s = pair leaf (pair (pair leaf (optional leaf)) (pair leaf (optional leaf)))}
+      (λ x. (make (kind.Alias (full_name (x.1.0)) (full_name (x.1.1))) (to_end (span_of x.0) (name_span (x.1.1))) (start (x.1.0.0)), other))
+      (sequence (token (key word.Alias)) (sequence method_name method_name))
+
+  -- "undef" mname ("," mname)*
+  unfoldable pub undef_statement : R (marked tree)
+  undef_statement = node {s = pair leaf (list (pair leaf (optional leaf)))} (λ x. (make (kind.Undef (full_names x.1)) (to_end (span_of x.0) (names_span (span_of x.0) x.1)) (start x.0), other))
+      (sequence (token (key word.Undef)) (separated method_name (op mark.Comma)))
+
+  -- simple : "alias" mname mname | "undef" mname ("," mname)* | expr
+  unfoldable pub simple : R (marked tree)
+  simple = choice alias_statement (choice undef_statement (expression true in_rescue))
+
+  -- ("if"|"unless"|"while"|"until") expr
+  unfoldable pub modifier : R (marked (pair leaf tree))
+  modifier = choice (view {s = pair leaf tree} (λ x. (x, if_behind)) (sequence (token (key word.If)) (named (part p.Expression true in_rescue))))
+      (choice (view {s = pair leaf tree} (λ x. (x, unless_behind)) (sequence (token (key word.Unless)) (named (part p.Expression true in_rescue))))
+      (choice (view {s = pair leaf tree} (λ x. (x, loop_behind)) (sequence (token (key word.While)) (named (part p.Expression false in_rescue))))
+      (view {s = pair leaf tree} (λ x. (x, loop_behind)) (needs 1 (node {s = pair leaf tree} until_condition (sequence (token (key word.Until)) (named (part p.Expression false in_rescue))))))))
+
+  -- stmt : simple modifier*
+  unfoldable pub statement : R (marked tree)
+  statement = suffixes {r = marked (pair leaf tree)} 1 simple modifier modified
+
+  -- stmts : sep* [stmt (sep+ stmt)* sep*]; that is, statements or none, with a sep between
+  unfoldable pub line : R (optional tree)
+  line = maybe (named (part p.Statement true in_rescue))
+
+  unfoldable pub statement_list : R (marked tree)
+  statement_list = node {s = pair (optional tree) (list (optional tree))} (λ x. sequence_of (statements (x.0 ∷ x.1))) (sequence line (many (behind separators line)))
