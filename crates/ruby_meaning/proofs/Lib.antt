@@ -4,3 +4,4 @@ pub mod Loading
 pub mod Longer
 pub mod Quoted
 pub mod Lexing
+pub mod Scoping

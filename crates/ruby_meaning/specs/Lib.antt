@@ -1,6 +1,7 @@
 pub mod Constructs
 pub mod Depth
 pub mod Lexing
+pub mod Scoping
 pub mod Lines
 pub mod State
 pub mod Eval

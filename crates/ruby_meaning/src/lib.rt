@@ -5,6 +5,8 @@ mod construct;
 mod form;
 mod laws;
 mod open_texts;
+mod scope;
+mod scope_laws;
 mod spot;
 mod table;
 mod token;
@@ -19,6 +21,10 @@ pub use form::{
 };
 pub use laws::{one_load, one_reading, puts_in_turn, runs};
 pub use open_texts::OpenTexts;
+pub use scope::{
+    Around, NameList, Refusal, Resolved, Role, Scope, Scopes, Seen, Site, SiteKind, Sites,
+};
+pub use scope_laws::one_scoping;
 pub use spot::Spot;
 pub use table::{BLOCK_BEGIN, BLOCK_END, END_LINE, MARKS, METHOD_MARKS, RESERVED};
 pub use token::{Mark, Token, TokenKind, Tokens, Word};
