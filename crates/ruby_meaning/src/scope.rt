@@ -59,7 +59,7 @@ pub struct Refusal {
 /// Names in the order in which they came, each once.
 #[derive(Drop)]
 pub struct NameList {
-    items: Vec<Units>,
+    names: Names,
 }
 
 impl Model for NameList {
@@ -67,7 +67,7 @@ impl Model for NameList {
 
     ghost Value = { List (List ℕ) };
 
-    ghost view = { λ names. names.items.items };
+    ghost view = { λ list. list.names };
 }
 
 impl NameList {
@@ -76,23 +76,25 @@ impl NameList {
         ensures { result ≡ [] }
     {
         NameList {
-            items: Vec::new(alloc),
+            names: Names::new(alloc),
         }
     }
 
     /// Whether a name is among them.
-    #[tactic(auto, unfolding(crate::specs::Scoping::Names::has, crate::specs::Scoping::Names::with_name))]
+    #[tactic(auto, using(crate::proofs::Scoping::Lists::drop_at), unfolding(crate::specs::Scoping::Names::has))]
     pub fn contains(&self, name: &[u16]) -> bool
         ensures { result ≡ has self.now name.now }
     {
-        self.items
-            .as_slice()
-            .iter()
-            .any(|item| item.as_slice() == name)
+        for i in 0..self.names.len() {
+            if self.names.at(i).as_slice() == name {
+                return true;
+            }
+        }
+        false
     }
 
     /// Puts a name at the end, if it isn't among them. Where no memory is found, nothing changes.
-    #[tactic(auto, unfolding(crate::specs::Scoping::Names::has, crate::specs::Scoping::Names::with_name))]
+    #[tactic(auto, unfolding(crate::specs::Scoping::Names::with_name))]
     pub fn insert(&mut self, name: &Units) -> Result<(), NoMemory>
         ensures ok { OnOk result (self.new ≡ with_name self.old name.now) }
         ensures err { OnErr result (self.new ≡ self.old) }
@@ -100,11 +102,15 @@ impl NameList {
         if self.contains(name.as_slice()) {
             return Ok(());
         }
-        let copy = name.try_clone()?;
-        match self.items.push(copy) {
-            Ok(()) => Ok(()),
-            Err(_) => Err(NoMemory),
-        }
+        self.names.push(name.try_clone()?)
+    }
+
+    /// The names as a list.
+    pub fn into_names(self) -> Names
+        ensures { result ≡ self }
+    {
+        let NameList { names } = self;
+        names
     }
 }
 

@@ -1,5 +1,5 @@
 -- What holds of the scoping of a program.
-use Rattle.std.specs.Prelude.{◌≡◌, List, Option, Some, None, ◌⊎◌}
+use Rattle.std.specs.Prelude.{◌≡◌, List, ◌⊎◌}
 use Rattle.opal_base.specs.declared.place.Pos.{Pos}
 use Rattle.ruby_meaning.specs.declared.construct.Construct.{Construct}
 use Rattle.ruby_meaning.specs.declared.scope.Scope.{Scope}

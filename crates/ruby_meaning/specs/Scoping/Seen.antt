@@ -1,5 +1,5 @@
 -- What the text before a place says there: the locals, the scopes and called names so far, the first refusal.
-use Rattle.std.specs.Prelude.{ℕ, Bool, true, false, not, ◌&&◌, ◌||◌, if◌then◌else◌, ◌==◌, nat_lt, List, [], ◌∷◌, ◌++◌, Option, Some, None}
+use Rattle.std.specs.Prelude.{Bool, false, not, ◌&&◌, ◌||◌, if◌then◌else◌, ◌==◌, nat_lt, List, [], ◌∷◌, ◌++◌, Option, Some, None}
 use Rattle.std.specs.List.{list_any}
 use Rattle.opal_base.specs.declared.place.Pos.{Pos}
 use Rattle.ruby_meaning.specs.declared.construct.Construct.{Construct}
@@ -67,20 +67,42 @@ called name s = record s { calls = with_name s.calls name }
 unfoldable pub opened : List (List Name) → Seen → Seen
 opened outer s = record s { own = []; params = []; named = []; outer = outer; scopes = [] }
 
--- behind a scope: it and those within it stand behind the scopes before it
-unfoldable pub closed : Seen → Seen → Seen
-closed s inner = record inner {
-  own = s.own;
-  params = s.params;
-  named = s.named;
-  outer = s.outer;
-  scopes = s.scopes ++ record { own = inner.own; outer = inner.named } ∷ inner.scopes;
+-- the innermost of the outer scopes that a block sees, and the others
+abbrev pub innermost : List (List Name) → List Name
+innermost [] = []
+innermost (x ∷ []) = x
+innermost (x ∷ (y ∷ ys)) = innermost (y ∷ ys)
+
+abbrev pub outer_ones : List (List Name) → List (List Name)
+outer_ones [] = []
+outer_ones (x ∷ []) = []
+outer_ones (x ∷ (y ∷ ys)) = x ∷ outer_ones (y ∷ ys)
+
+-- Behind a block the innermost scope that it saw is the scope again. The block and those within it stand behind the
+-- scopes before it.
+unfoldable pub block_closed : List Name → List Name → List Scope → Seen → Seen
+block_closed params named scopes inner = record inner {
+  own = innermost inner.outer;
+  params = params;
+  named = named;
+  outer = outer_ones inner.outer;
+  scopes = scopes ++ record { own = inner.own; outer = inner.named } ∷ inner.scopes
+}
+
+-- Behind a body that sees no scope around it, the scope around it is as it was.
+unfoldable pub body_closed : List Name → List Name → List Name → List (List Name) → List Scope → Seen → Seen
+body_closed own params named outer scopes inner = record inner {
+  own = own;
+  params = params;
+  named = named;
+  outer = outer;
+  scopes = scopes ++ record { own = inner.own; outer = inner.named } ∷ inner.scopes
 }
 
 -- a block or a lambda sees the scope around it
 abbrev pub in_block : (Seen → Seen) → Seen → Seen
-in_block body s = closed s (body (opened (s.outer ++ s.own ∷ []) s))
+in_block body s = block_closed s.params s.named s.scopes (body (opened (s.outer ++ s.own ∷ []) s))
 
 -- a `def`, a class and a module see none
 abbrev pub in_body : (Seen → Seen) → Seen → Seen
-in_body body s = closed s (body (opened [] s))
+in_body body s = body_closed s.own s.params s.named s.outer s.scopes (body (opened [] s))

@@ -104,20 +104,20 @@ abbrev pub all_if_any : Option (List Part) → Walk
 all_if_any None c s = s
 all_if_any (Some ps) c s = all ps c s
 
--- keys and values in turn
+-- keys and values in turn: there are as many
 abbrev pub in_turn : List Part → List Part → Walk
-in_turn [] vs c s = all vs c s
-in_turn (k ∷ ks) [] c s = all (k ∷ ks) c s
+in_turn [] vs c s = s
+in_turn (k ∷ ks) [] c s = in_turn ks [] c (k.walk c s)
 in_turn (k ∷ ks) (v ∷ vs) c s = in_turn ks vs c (v.walk c (k.walk c s))
 
--- parameters with their defaults in turn
 abbrev pub names_in_turn : Pos → List Name → Seen → Seen
 names_in_turn mark [] s = s
 names_in_turn mark (n ∷ ns) s = names_in_turn mark ns (parameter mark n s)
 
+-- parameters with their defaults in turn: there are as many
 abbrev pub defaults_in_turn : Pos → List Name → List Part → Walk
-defaults_in_turn mark [] ps c s = all ps c s
-defaults_in_turn mark (n ∷ ns) [] c s = names_in_turn mark (n ∷ ns) s
+defaults_in_turn mark ns [] c s = names_in_turn mark ns s
+defaults_in_turn mark [] (p ∷ ps) c s = defaults_in_turn mark [] ps c (p.walk c s)
 defaults_in_turn mark (n ∷ ns) (p ∷ ps) c s = defaults_in_turn mark ns ps c (p.walk c (parameter mark n s))
 
 -- A condition, which may stand behind what it guards: in the order of the text.
@@ -150,11 +150,11 @@ operator_name operator.And = None
 abbrev pub setter : Name → Name
 setter name = name ++ codes "="
 
-abbrev pub called_if_any : Option Name → Seen → Seen
+unfoldable pub called_if_any : Option Name → Seen → Seen
 called_if_any None s = s
 called_if_any (Some name) s = called name s
 
-abbrev pub refuse_marked : Bool → Option Pos → Seen → Seen
+unfoldable pub refuse_marked : Bool → Option Pos → Seen → Seen
 refuse_marked b None s = s
 refuse_marked b (Some pos) s = refuse_if b pos construct.AmbiguousArgument s
 
@@ -192,25 +192,33 @@ requires_file below name None no_block = false
 requires_file below name (Some text) no_block =
     no_block && names_file (if is_relative name then below else Some 0) text
 
--- A call without receiver is alone: it may be the name of a local, or a `require`.
-abbrev pub call : Option ℕ → Option Part → Name → List Part → Option Part → Option Pos → Pos → Around → Seen → Seen
-call below receiver name args block marked mark c s =
-    let alone = is_none receiver in
-    let d = plain c in
-    if alone && is_empty args && is_none block && is_local s name then name_local name s
-    else (if alone && is_require name then
-    if_any block d (all args d (refuse_marked (alone && is_local s name) marked
-    (refuse_if (not (requires_file below name (only_text args) (is_none block))) mark construct.DynamicRequire s)))
-    else if_any block d (all args (as_role role.Shown c) (if_any receiver d
-    (refuse_marked (alone && is_local s name) marked
-    (refuse_if (alone && bytes_eq name (codes "lambda") && not (is_literal_block block)) mark construct.BareLambda
-    (refuse_if (is_eval alone name args) mark construct.Eval
-    (called (if is_target c.role then setter name else name) s)))))))
-
 -- `puts` with one text
 abbrev pub is_shown_text : Option Part → Name → List Part → Option Part → Bool
 is_shown_text receiver name args block =
     is_none receiver && bytes_eq name (codes "puts") && is_some (only_text args) && is_none block
+
+-- a `require` without receiver
+unfoldable pub noted_require : Option ℕ → Name → List Part → Option Part → Option Pos → Pos → Seen → Seen
+noted_require below name args block marked mark s =
+    refuse_marked (is_local s name) marked
+    (refuse_if (not (requires_file below name (only_text args) (is_none block))) mark construct.DynamicRequire s)
+
+-- a call that looks a name up; it is alone where it has no receiver
+unfoldable pub noted_call : Bool → Name → List Part → Option Part → Option Pos → Pos → Role → Seen → Seen
+noted_call alone name args block marked mark r s =
+    refuse_marked (alone && is_local s name) marked
+    (refuse_if (alone && bytes_eq name (codes "lambda") && not (is_literal_block block)) mark construct.BareLambda
+    (refuse_if (is_eval alone name args) mark construct.Eval
+    (called (if is_target r then setter name else name) s)))
+
+-- A call without receiver may be the name of a local, or a `require`.
+abbrev pub call : Option ℕ → Option Part → Name → List Part → Option Part → Option Pos → Pos → Around → Seen → Seen
+call below receiver name args block marked mark c s =
+    if is_none receiver && is_empty args && is_none block && is_local s name then name_local name s
+    else (if is_none receiver && is_require name then
+        if_any block (plain c) (all args (plain c) (noted_require below name args block marked mark s))
+    else if_any block (plain c) (all args (as_role (if is_shown_text receiver name args block then role.Shown else role.Plain) c)
+        (if_any receiver (plain c) (noted_call (is_none receiver) name args block marked mark c.role s))))
 
 -- ---- parameters
 
@@ -257,7 +265,13 @@ of_form (ModuleForm-F.Singleton node) = node.walk
 abbrev pub is_thread : Name → Bool
 is_thread name = is_one_of name (codes "Thread" ∷ codes "Fiber" ∷ codes "Mutex" ∷ [])
 
-abbrev pub rescued : Option Name → Seen → Seen
+abbrev pub constant : BasePart → Name → Pos → Around → Seen → Seen
+constant base name mark c s =
+    base.walk (plain c)
+    (refuse_if (is_target c.role && c.in_def) mark construct.DynamicConstant
+    (refuse_if (base.is_here && is_thread name) mark construct.ThreadOrFiber s))
+
+unfoldable pub rescued : Option Name → Seen → Seen
 rescued None s = s
 rescued (Some name) s = name_local name s
 
@@ -274,10 +288,7 @@ of_kind below (Kind-F.RangeLit low high without_end) =
 of_kind below (Kind-F.LocalGet name) = unbuilt (λ mark c s. name_local name s)
 of_kind below (Kind-F.IvarGet name) = nothing
 of_kind below (Kind-F.GlobalGet name) = nothing
-of_kind below (Kind-F.ConstGet base name) =
-    unbuilt (λ mark c s. base.walk (plain c)
-    (refuse_if (is_target c.role && c.in_def) mark construct.DynamicConstant
-    (refuse_if (base.is_here && is_thread name) mark construct.ThreadOrFiber s)))
+of_kind below (Kind-F.ConstGet base name) = unbuilt (constant base name)
 of_kind below (Kind-F.LocalSet name value) = unbuilt (λ mark c s. value.walk (plain c) (name_local name s))
 of_kind below (Kind-F.IvarSet name value) = unbuilt (λ mark c s. value.walk (plain c) s)
 of_kind below (Kind-F.GlobalSet name value) = unbuilt (λ mark c s. value.walk (plain c) s)
