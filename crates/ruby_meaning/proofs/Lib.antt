@@ -5,3 +5,4 @@ pub mod Longer
 pub mod Quoted
 pub mod Lexing
 pub mod Grammar
+pub mod Scoping

@@ -2,6 +2,7 @@ pub mod Constructs
 pub mod Depth
 pub mod Lexing
 pub mod Grammar
+pub mod Scoping
 pub mod Lines
 pub mod State
 pub mod Eval

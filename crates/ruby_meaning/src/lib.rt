@@ -7,6 +7,8 @@ mod grammar_laws;
 mod laws;
 mod open_texts;
 mod production;
+mod scope;
+mod scope_laws;
 mod spot;
 mod table;
 mod token;
@@ -23,6 +25,10 @@ pub use grammar_laws::{beginnings_are_fronts, one_program, one_token_tells};
 pub use laws::{one_load, one_reading, puts_in_turn, runs};
 pub use open_texts::OpenTexts;
 pub use production::{Part, Production, Sign};
+pub use scope::{
+    Around, NameList, Refusal, Resolved, Role, Scope, Scopes, Seen, Site, SiteKind, Sites,
+};
+pub use scope_laws::one_scoping;
 pub use spot::Spot;
 pub use table::{BLOCK_BEGIN, BLOCK_END, END_LINE, MARKS, METHOD_MARKS, RESERVED};
 pub use token::{Mark, Token, TokenKind, Tokens, Word};
