@@ -24,4 +24,4 @@ pub record Valid (cells : List Cell) : Type 0 where
   pub enough : count ≤ length cells
   pub intrinsic : (o : ℕ) → o < count → (cell_at cells o).kind ≡ (cell_at made.cells o).kind
   pub links : LinksWithin cells
-  pub values : (o : ℕ) → NamesIn (length cells) (cell_at cells o)
+  pub values : All (NamesIn (length cells)) cells
