@@ -1,14 +1,21 @@
 -- What a change leaves of a valid heap.
-use Rattle.std.proofs.Common.{◌≡◌, ◌≢◌, ℕ, ◌+◌, ◌<◌, ◌≤◌, ◌⊎◌, ⊎_elim, inl, inr, Bool, true, false, eqb, if◌then◌else◌, List, [], ◌∷◌, ◌++◌, length, set, get_or, Option, Some, None, refl, sym, ap, subst, ◌∙◌, arith, length-append, length-set, get_or-set_other, get_or-set_same, eqb-true, eq-eqb, bytes_eq}
+use Rattle.std.proofs.Common.{◌≡◌, ◌≢◌, ℕ, ◌+◌, ◌<◌, ◌≤◌, ◌⊎◌, ⊎_elim, inl, inr, Bool, true, false, eqb, if◌then◌else◌, List, [], ◌∷◌, ◌++◌, length, set, get_or, Option, Some, None, refl, sym, ap, subst, ◌∙◌, arith, length-append, length-set, get_or-set_other, get_or-set_same, eqb-true, eq-eqb, bytes_eq, zero, suc, map, ◌&&◌, Result, Ok, Err, OnOk, OnErr}
 use Rattle.std.specs.List.{All}
 use Rattle.std.proofs.lemmas.Bool.{false≢true}
-use Rattle.std.proofs.lemmas.List.{get_or_append_left}
+use Rattle.std.proofs.lemmas.List.{get_or_append_left, set-get_or}
 use Rattle.std.proofs.lemmas.List.Elements.{All-weaker, All-push, All-set, All-get_or, All-filter, All-nil, All-cons, All-head, All-tail}
 use Rattle.es5_tree.specs.State.{Text, Val, Undefined, Null, Truth, Num, Str, Obj}
-use Rattle.es5_tree.specs.Objects.Cells.{Cell, Kind, Object, new_cell, put, with_property, with_length, with_value, elements_below, stays_below, is_array_length, whole}
-use Rattle.es5_tree.specs.Objects.Names.{index_of}
+use Rattle.es5_tree.specs.Objects.Cells.{Cell, Kind, Object, new_cell, put, with_property, with_length, with_value, elements_below, stays_below, is_array, is_array_length, whole, CanPut}
+use Rattle.es5_tree.specs.Objects.Names.{index_of, decimal, is_length, length_name}
 use Rattle.es5_tree.specs.Objects.Links.{cell_at, link_at, with_link, Within, LinksWithin}
-use Rattle.es5_tree.specs.Intrinsics.Valid.{Names, NamesIn, Valid}
+use Rattle.es5_tree.specs.Intrinsics.Valid.{Names, NamesIf, NamesIn, Valid}
+use Rattle.es5_tree.specs.Intrinsics.Rows.{with_element}
+use Rattle.es5_objects.specs.declared.value.EsValue.{EsValue}
+use Rattle.es5_objects.specs.Values.{value_of, value_if}
+use Rattle.es5_objects.specs.Heap.{Heap, with_cell}
+use Rattle.std.specs.Int.Digits.{digits_of, AllBelowBase}
+use Rattle.std.proofs.lemmas.Int.Digits.{all_below_base_digits_of}
+use Rattle.std.proofs.lemmas.Slice.Eq.{bytes_eq-Decides}
 use Rattle.es5_tree.specs.Intrinsics.Made.{count}
 use Rattle.es5_tree.specs.Intrinsics.Made as made
 use Rattle.es5_tree.proofs.ObjectLinks.{links_push, links_set}
@@ -119,3 +126,39 @@ valid_put cells o name v lt h valid =
     (subst (Within cells) (sym (put_link (cell_at cells o) name v)) (link_at_within cells o valid))
     (names_put (length cells) (cell_at cells o) name v h (names_at cells o lt valid))
     valid
+
+-- a write that may find no memory
+pub valid_written : {T E : Type 0} (r : Result T E) (h new : Heap) (o : ℕ) (name : Text) (v : Val) → OnOk r (new ≡ with_cell h o (put (cell_at h.cells o) name v)) → OnErr r (new ≡ h) → o < length h.cells → Names (length h.cells) v → Valid h.cells → Valid new.cells
+valid_written (Ok x) h new o name v ok err lt n valid = subst (λ k. Valid k.cells) (sym ok) (valid_put h.cells o name v lt n valid)
+valid_written (Err x) h new o name v ok err lt n valid = subst (λ k. Valid k.cells) (sym err) valid
+
+pub item_named : (n : ℕ) (item : Option EsValue) (v w : EsValue) → item ≡ Some v → w ≡ v → NamesIf n (value_if item) → Names n (value_of w)
+item_named n item v w e same h = subst (λ x. Names n (value_of x)) (sym same) (subst (λ i. NamesIf n (value_if i)) e h)
+
+-- writing an object as it is
+pub unchanged : (h : Heap) (o : ℕ) → h ≡ with_cell h o (cell_at h.cells o)
+unfolding cell_at
+unchanged h o = ap (λ cells. record { cells = cells; capacity = h.capacity }) (sym (set-get_or h.cells o (new_cell Object None)))
+
+pub left_alone : (h : Heap) (o i : ℕ) (item : Option EsValue) → item ≡ None → h ≡ with_cell h o (with_element (cell_at h.cells o) i (value_if item))
+left_alone h o i item e = unchanged h o ∙ ap (λ x. with_cell h o (with_element (cell_at h.cells o) i (value_if x))) (sym e)
+
+-- ---- indices aren't `length`
+
+no_digits : (ds : List ℕ) → AllBelowBase 10 ds → map (λ d. 48 + d) ds ≡ length_name → ⊥
+no_digits [] h e = cc
+no_digits (d ∷ ds) h e =
+    let first : 48 + d ≡ 108 = ap (λ units. get_or units 0 0) e in
+    omega (arith, h.0)
+
+no_decimal : (i : ℕ) → decimal i ≡ length_name → ⊥
+unfolding decimal
+no_decimal zero e = cc
+no_decimal (suc n) e = no_digits (digits_of 10 (suc n)) (all_below_base_digits_of 10 (suc n) (omega arith)) e
+
+both : (a b : Bool) → (a && b) ≡ true → b ≡ true
+both true b e = e
+both false b e = cc
+
+pub index_can_put : (c : Cell) (i : ℕ) (name : Text) (v : Val) → name ≡ decimal i → CanPut c name v
+index_can_put c i name v e is = absurd (no_decimal i (sym e ∙ (bytes_eq-Decides name length_name).0 (both (is_array c.kind) (is_length name) is)))

@@ -68,3 +68,20 @@ pub fn two_of(args: &EsValues) -> Option<(&EsValue, &EsValue)>
         _ => None,
     }
 }
+
+/// The number from 0 on that a value is.
+pub fn natural_of(value: &EsValue) -> Option<u64>
+    ensures { result ≡ natural_of (value_of value.now) }
+{
+    match value {
+        EsValue::Num(n) => {
+            let number = n.value();
+            if 0 <= number {
+                Some(number as u64)
+            } else {
+                None
+            }
+        }
+        _ => None,
+    }
+}

@@ -218,14 +218,13 @@ is_array_row cells v = Gives (Truth (is_some (array_at cells v)))
 
 -- 15.4.4.7, for one value
 abbrev pub push : List Cell → Val → Val → Row
-push cells this v = covered (array_at cells this) (λ o.
-    let c = cell_at cells o in
-    where_true (nat_lt c.array_length index_end) (Sets (Num (pos (c.array_length + 1))) o (put c (decimal c.array_length) v)))
+push cells this v = covered (array_at cells this) (λ o. covered (listed_length (cell_at cells o)) (λ n.
+    where_true (nat_lt n index_end) (Sets (Num (pos (n + 1))) o (put (cell_at cells o) (decimal n) v))))
 
 -- 15.4.4.10
 abbrev pub slice : List Cell → Val → Val → Val → Row
-slice cells this v w = covered (array_at cells this) (λ o. covered (natural_of v) (λ i. covered (natural_of w) (λ j.
-    where_true (nat_le i j && nat_le j (cell_at cells o).array_length) (Makes (array_of (elements cells o i (j - i)))))))
+slice cells this v w = covered (array_at cells this) (λ o. covered (listed_length (cell_at cells o)) (λ n. covered (natural_of v) (λ i. covered (natural_of w) (λ j.
+    where_true (nat_le i j && nat_le j n) (Makes (array_of (elements cells o i (j - i))))))))
 
 -- ---- String
 

@@ -1,5 +1,5 @@
 -- Heaps in which the intrinsic objects stand and all that names an object names one that is there.
-use Rattle.std.specs.Prelude.{◌≡◌, ℕ, ◌<◌, ◌≤◌, List, length, ⊤, All}
+use Rattle.std.specs.Prelude.{◌≡◌, ℕ, ◌<◌, ◌≤◌, List, length, Option, IfSome, ⊤, All}
 use Rattle.es5_tree.specs.State.{Val, Undefined, Null, Truth, Num, Str, Obj}
 use Rattle.es5_tree.specs.Objects.Cells.{Cell}
 use Rattle.es5_tree.specs.Objects.Links.{cell_at, LinksWithin}
@@ -14,6 +14,10 @@ Names n (Truth b) = ⊤
 Names n (Num z) = ⊤
 Names n (Str s) = ⊤
 Names n (Obj o) = o < n
+
+-- where there is a value, it names one
+abbrev pub NamesIf : ℕ → Option Val → Type 0
+NamesIf n v = IfSome v (Names n)
 
 -- the values of an object's properties name objects below n
 abbrev pub NamesIn : ℕ → Cell → Type 0
