@@ -16,3 +16,4 @@ pub mod Eval
 pub mod Run
 pub mod Laws
 pub mod Objects
+pub mod Intrinsics

@@ -1,0 +1,4 @@
+pub mod Rows
+pub mod Validity
+pub mod Reading
+pub mod Elements

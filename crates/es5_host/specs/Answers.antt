@@ -1,0 +1,56 @@
+-- What the answer to a call of an intrinsic function says, beside the row of that function.
+use Rattle.std.specs.Prelude.{◌≡◌, ℕ, ◌<◌, ◌≤◌, List, [], ◌∷◌, ◌++◌, length, codes, ⊤, All}
+use Rattle.es5_tree.specs.State.{Text, Val, Undefined, Obj}
+use Rattle.es5_tree.specs.Objects.Cells.{Cell}
+use Rattle.es5_tree.specs.Intrinsics.Rows.{Row, Gives, Sets, Makes, Throws, Invokes, Leaves, Writes, Reads}
+use Rattle.es5_tree.specs.Intrinsics.Valid.{Names}
+use Rattle.es5_objects.specs.Heap.{Heap, with_cell}
+use Rattle.es5_objects.specs.Values.{value_of}
+use Rattle.es5_host.specs.Values.{out_of}
+use Rattle.es5_host.specs.declared.answer.HostAnswer.{HostAnswer}
+use Rattle.es5_host.specs.declared.answer.HostAnswer.TheVariants.{Value, Throw, Invoke, Outside, CellsFull, WriteFault, NoMemory}
+
+-- the heap with one more object
+abbrev pub with_new : Heap → Cell → Heap
+with_new h c = record { cells = h.cells ++ c ∷ []; capacity = h.capacity }
+
+-- a heap with a cell left
+abbrev pub HasRoom : Heap → Type 0
+HasRoom h = length h.cells < h.capacity
+
+-- a value is what the row gives, and the heap is as the row leaves it
+abbrev pub Gave : Row → Val → Heap → Heap → Type 0
+Gave (Gives v) w old new = (w ≡ v) × (new ≡ old)
+Gave (Sets v o c) w old new = (w ≡ v) × (new ≡ with_cell old o c)
+Gave (Makes c) w old new = (w ≡ Obj (length old.cells)) × HasRoom old × (new ≡ with_new old c)
+Gave (Throws message) w old new = ⊥
+Gave (Invokes f this args) w old new = ⊥
+Gave (Leaves kind) w old new = ⊥
+Gave (Writes s) w old new = (w ≡ Undefined) × (new ≡ old)
+Gave (Reads v n) w old new = (w ≡ v) × (new ≡ old)
+
+abbrev pub MakesObject : Row → Type 0
+MakesObject row = (c : Cell) × (row ≡ Makes c)
+
+abbrev pub WritesText : Row → Type 0
+WritesText row = (s : Text) × (row ≡ Writes s)
+
+-- The answer is that of the row. Where it is no value the heap is as before, but for want of memory, of which nothing is said.
+abbrev pub Answered : Row → HostAnswer → Heap → Heap → Type 0
+Answered row (Value v) old new = Gave row (value_of v) old new
+Answered row (Throw name message) old new = (name ≡ codes "TypeError") × (row ≡ Throws message) × (new ≡ old)
+Answered row (Invoke f this args) old new = (row ≡ Invokes f (value_of this) args) × (new ≡ old)
+Answered row (Outside kind) old new = (row ≡ Leaves (out_of kind)) × (new ≡ old)
+Answered row CellsFull old new = MakesObject row × (old.capacity ≤ length old.cells) × (new ≡ old)
+Answered row WriteFault old new = WritesText row × (new ≡ old)
+Answered row NoMemory old new = ⊤
+
+-- the values of an answer name objects below n
+abbrev pub NamesInAnswer : ℕ → HostAnswer → Type 0
+NamesInAnswer n (Value v) = Names n (value_of v)
+NamesInAnswer n (Throw name message) = ⊤
+NamesInAnswer n (Invoke f this args) = (f < n) × Names n (value_of this) × All (Names n) args
+NamesInAnswer n (Outside kind) = ⊤
+NamesInAnswer n CellsFull = ⊤
+NamesInAnswer n WriteFault = ⊤
+NamesInAnswer n NoMemory = ⊤

@@ -1,0 +1,3 @@
+pub mod Items
+pub mod Values
+pub mod Answers

@@ -1,0 +1,130 @@
+//! Elements of arrays.
+
+ghost use Rattle.std.specs.Prelude.{◌≡◌, ◌+◌, ◌<◌, ◌^◌, [], ◌∷◌, ◌++◌, length, map, IfOk, OnOk, All};
+ghost use Rattle.std.specs.Option.{option_copied};
+ghost use Rattle.es5_tree.specs.Objects.Links.{cell_at, get};
+ghost use Rattle.es5_tree.specs.Objects.Names.{decimal};
+ghost use Rattle.es5_tree.specs.Intrinsics.Rows.{elements, with_element, filled, array_of, Makes};
+ghost use Rattle.es5_tree.specs.Intrinsics.Valid.{Valid};
+ghost use Rattle.es5_objects.specs.Heap.{with_cell};
+ghost use Rattle.es5_objects.specs.Values.{value_of, value_if};
+ghost use Rattle.es5_host.specs.Answers.{Answered};
+ghost use Rattle.es5_tree.specs.Intrinsics.Valid.{NamesIf};
+
+use crate::answer::HostAnswer;
+use es5_objects::{CellKind, EsValue, ObjHeap, decimal};
+use opal_base::NoMemory;
+use std::alloc::Global;
+
+// The number of `Array.prototype`.
+const ARRAY_PROTOTYPE: u32 = 2;
+
+// The value again, where there is one.
+fn share_if(value: Option<&EsValue>) -> Result<Option<EsValue>, NoMemory>
+    ensures { IfOk result (λ copy. value_if copy ≡ value_if (option_copied value.entry)) }
+{
+    match value {
+        Some(value) => Ok(Some(value.share()?)),
+        None => Ok(None),
+    }
+}
+
+// Puts what stands at an index of an object at the end.
+fn push_element(
+    alloc: Global,
+    heap: &ObjHeap,
+    o: u32,
+    index: u32,
+    items: &mut Vec<Option<EsValue>>,
+) -> Result<(), NoMemory>
+    requires { o < length heap.now.cells }
+    ensures { OnOk result (map value_if items.new.items ≡ map value_if items.old.items ++ get heap.now.cells o (decimal index) ∷ []) }
+{
+    let name = decimal(alloc, index)?;
+    let item = share_if(heap.get(o, &name))?;
+    match items.push(item) {
+        Ok(()) => Ok(()),
+        Err(_) => Err(NoMemory),
+    }
+}
+
+/// What stands at these indices of an object, its links included, and where nothing does.
+pub fn elements(
+    alloc: Global,
+    heap: &ObjHeap,
+    o: u32,
+    from: u32,
+    count: u32,
+) -> Result<Vec<Option<EsValue>>, NoMemory>
+    requires object { o < length heap.now.cells }
+    requires end { from + count < 2 ^ 32 }
+    ensures { IfOk result (λ items. map value_if items.items ≡ elements heap.now.cells o from count) }
+{
+    let mut items = Vec::new(alloc);
+    for i in 0..count {
+        push_element(alloc, heap, o, from + i, &mut items)?;
+    }
+    Ok(items)
+}
+
+// Puts an element at an index of an object, where there is one.
+fn put_element(
+    alloc: Global,
+    heap: &mut ObjHeap,
+    o: u32,
+    i: u32,
+    item: &Option<EsValue>,
+) -> Result<(), NoMemory>
+    requires object { o < length heap.old.cells }
+    requires item { NamesIf (length heap.old.cells) (value_if item.now) }
+    requires valid { Valid heap.old.cells }
+    ensures put { OnOk result (heap.new ≡ with_cell heap.old o (with_element (cell_at heap.old.cells o) i (value_if item.now))) }
+    ensures valid { Valid heap.new.cells }
+    ensures count { length heap.new.cells ≡ length heap.old.cells }
+{
+    match item {
+        Some(value) => {
+            let name = decimal(alloc, i)?;
+            heap.put(o, name, value.share()?)
+        }
+        None => Ok(()),
+    }
+}
+
+// Puts elements into an object, from the index 0 on.
+fn fill(
+    alloc: Global,
+    heap: &mut ObjHeap,
+    o: u32,
+    items: &[Option<EsValue>],
+) -> Result<(), NoMemory>
+    requires object { o < length heap.old.cells }
+    requires few { length items.now < 2 ^ 32 }
+    requires items { All (λ item. NamesIf (length heap.old.cells) (value_if item)) items.now }
+    requires valid { Valid heap.old.cells }
+    ensures filled { OnOk result (heap.new ≡ with_cell heap.old o (filled (cell_at heap.old.cells o) 0 (map value_if items.now))) }
+    ensures valid { Valid heap.new.cells }
+    ensures count { length heap.new.cells ≡ length heap.old.cells }
+{
+    for i in 0..items.len() {
+        put_element(alloc, heap, o, i as u32, &items[i])?;
+    }
+    Ok(())
+}
+
+/// Makes a new array of these elements, some of which may be left out.
+pub fn make_array(alloc: Global, heap: &mut ObjHeap, items: &[Option<EsValue>]) -> HostAnswer
+    requires few { length items.now < 2 ^ 32 }
+    requires items { All (λ item. NamesIf (length heap.old.cells) (value_if item)) items.now }
+    requires valid { Valid heap.old.cells }
+    ensures answer { Answered (Makes (array_of (map value_if items.now))) result heap.old heap.new }
+    ensures valid { Valid heap.new.cells }
+{
+    match heap.create_as(Some(ARRAY_PROTOTYPE), CellKind::Array) {
+        Err(_) => HostAnswer::CellsFull,
+        Ok(o) => match fill(alloc, heap, o, items) {
+            Ok(()) => HostAnswer::Value(EsValue::Obj(o)),
+            Err(_) => HostAnswer::NoMemory,
+        },
+    }
+}

@@ -1,0 +1,17 @@
+//! The intrinsic objects of scripts, and what a call of each intrinsic function does (ECMA-262 5.1,
+//! section 15, in the profile).
+#![tactic(auto)]
+
+mod answer;
+mod argument;
+mod array;
+mod element;
+mod lines;
+mod object;
+mod values;
+
+pub use answer::{HostAnswer, HostFn, OutKind};
+pub use array::is_array;
+pub use lines::Lines;
+pub use object::{create, get_prototype_of, has_own_property, set_prototype_of};
+pub use values::EsValues;
