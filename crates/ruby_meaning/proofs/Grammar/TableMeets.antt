@@ -1,30 +1,52 @@
 -- The grammar meets what is asked of a grammar in which one token tells how to go on.
-use Rattle.std.proofs.Common.{◌≡◌, ℕ, ◌<◌, Bool, true, false, ◌&&◌, ◌||◌, inl, inr, refl, sym, subst, arith, true≢false}
-use Rattle.std.specs.Prelude.{nat_eq, not}
-use Rattle.grammar.specs.Rules.{El}
-use Rattle.grammar.specs.Checks.{nullable, first, continues, GoesOn, Included, Checks, Guarded, Predictive}
+use Rattle.std.proofs.Common.{◌≡◌, ℕ, zero, suc, ◌≤◌, ◌<◌, max, Bool, true, false, ◌&&◌, ◌||◌, List, [], ◌∷◌, ◌++◌, map, Option, Some, None, ◌⊎◌, inl, inr, refl, sym, ap, ◌∙◌, subst, arith, true≢false}
+use Rattle.std.specs.Prelude.{nat_eq, not, is_some, codes, if◌then◌else◌}
+use Rattle.grammar.specs.Forms.{deepest}
+use Rattle.grammar.specs.Rules.{Sort, leaf, tree, marked, pair, list, optional, under, El, Rule, node, view, choice, named, suffix, Held, deep, deep_if}
+use Rattle.grammar.specs.Checks.{nullable, first, continues, GoesOn, Disjoint, Included, Checks, Guarded, Predictive}
+use Rattle.grammar.specs.CommonRules.{class, ◌or◌, before, maybe, separated}
+use Rattle.grammar.specs.CommonRules.{behind as behind_token}
+use Rattle.grammar.proofs.Depths.{deepest_flat, deepest_append}
 use Rattle.grammar.proofs.Classes.{by_class}
-use Rattle.grammar.proofs.Lists.{and_both}
+use Rattle.grammar.proofs.CommonChecks.{behind_checks}
+use Rattle.grammar.proofs.Lists.{and_split, and_both}
+use Rattle.ruby_meaning.specs.declared.production.Sign.TheVariants as sign
 use Rattle.ruby_meaning.specs.declared.token.Mark.TheVariants as mark
+use Rattle.ruby_meaning.specs.declared.token.Word.{Word}
+use Rattle.ruby_meaning.specs.declared.token.Word.TheVariants as word
+use Rattle.ruby_meaning.specs.declared.token.TokenKind.{TokenKind}
+use Rattle.ruby_meaning.specs.declared.token.TokenKind.TheVariants as token
+use Rattle.ruby_meaning.specs.declared.tree.Base.TheVariants as base
+use Rattle.ruby_meaning.specs.declared.tree.Kind.{Kind}
+use Rattle.ruby_meaning.specs.declared.tree.Kind.TheVariants as kind
+use Rattle.ruby_meaning.specs.declared.tree.Literal.TheVariants as literal
+use Rattle.opal_base.specs.declared.place.Pos.{Pos}
+use Rattle.opal_base.specs.declared.place.Span.{Span}
 use Rattle.ruby_meaning.specs.declared.tree.Node.{Node}
+use Rattle.ruby_meaning.specs.Depth.{depth_of, params_depth, form_depth}
 use Rattle.ruby_meaning.specs.Grammar.Seen.{Seen}
-use Rattle.ruby_meaning.specs.Grammar.Classes.{size, op}
+use Rattle.ruby_meaning.specs.Grammar.Classes.{size, mark_code, a, op, marked_op, key}
+use Rattle.ruby_meaning.specs.declared.production.Part.{Part}
 use Rattle.ruby_meaning.specs.declared.production.Production.{Production}
 use Rattle.ruby_meaning.specs.declared.production.Production.TheVariants as p
-use Rattle.ruby_meaning.specs.Grammar.Names.{sort_of, part}
+use Rattle.ruby_meaning.specs.Grammar.Names.{args_sort, sort_of, sorts, R, part}
 use Rattle.ruby_meaning.specs.Grammar.Actions as act
 use Rattle.ruby_meaning.specs.Grammar.Actions.{make, Args}
-use Rattle.ruby_meaning.specs.Grammar.Calls.{newlines, behind_newlines, closed, paren, brace_block, do_block, block, tail, paren_tail}
+use Rattle.ruby_meaning.specs.Grammar.Calls.{newlines, behind_newlines, closed, paren, brace_block, do_block, block, begins_block, block_beside, tail, paren_tail}
+use Rattle.ruby_meaning.specs.declared.tree.ModuleForm.TheVariants as form
+use Rattle.ruby_meaning.specs.Grammar.Definitions.{then_sign, else_part, branch, otherwise, if_value, unless_value, loop_body, while_value, until_value, when_clause, case_value, class_header, module_body, class_value, module_value, keyword_form}
 use Rattle.ruby_meaning.specs.Grammar.Primaries.{keyword_value, word_value, integer_value, text, ivar_value, gvar_value, top_constant, word_list, embedded, interpolated, parenthesized, array, label_key, pair_in_braces, hash_value, name_call, constant_value, super_value, yield_value, prim, dot_part, scope_part, bracket, post}
-use Rattle.ruby_meaning.specs.Grammar.Expressions.{value_of, not_level, power_level, minus_level, product_level, sum_level, shift_level, comparison_level, equal_level, equality_level, and_level, or_level, range_level, ternary, argument, command_arguments, command_part, splat, item, more_items, splat_list, other_items, one_value, nested_value, right_side, jump_value, jump, command_level, block_argument, label_pair, arrow_pair, arguments_from, arguments, cargs, more_pairs}
+use Rattle.ruby_meaning.specs.Grammar.Expressions.{plain, value_of, not_level, power_level, minus_level, product_level, sum_level, shift_level, comparison_level, equal_level, equality_level, and_level, or_level, range_level, ternary, updates, set_part, update_part, two_nodes, assignment, argument, begins_marked, begins_plain, command_arguments, do_beside, command_part, commanding, splat, item, more_items, splat_list, other_items, one_value, nested_value, right_side, jump_value, jump, command_level, block_argument, label_pair, arrow_pair, after_comma, with_block, finished, arguments_from, arguments, cargs, more_pairs}
 use Rattle.ruby_meaning.specs.Grammar.Statements.{method_name, not_expression, expression, alias_statement, undef_statement, simple, modifier, statement, line, statement_list}
 use Rattle.ruby_meaning.specs.Grammar.Table.{table, rule_of, begins, is_nullable, value_goes_on, goes_on_of}
 use Rattle.ruby_meaning.specs.Grammar.Table.{continues as behind}
+use Rattle.ruby_meaning.proofs.Grammar.Depths as d
+use Rattle.ruby_meaning.proofs.Grammar.ActionDepths.{args_depth, filled_deep, replaced_deep, items_deep, named_deep, constant_deep, super_deep, yield_deep, part_deep, selector_deep, some_level, joined_deep, statements_deep, sequence_deep, jump_deep, array_deep, callee_is, assigned_deep, variable_deep, attribute_deep, taken, command_deep, yield_command_deep, key_deep, more_deep, single_open, pair_open}
 use Rattle.ruby_meaning.proofs.Grammar.Codes.{code_within}
-use Rattle.ruby_meaning.proofs.Grammar.Checks.{Quiet, bounded, quiet_comma, c_statements, c_statement, c_expression, c_not_expression, c_right, c_nested, c_one, c_argument, c_ternary, c_or, c_and, c_equality, c_comparison, c_shift, c_sum, c_product, c_minus, c_power, c_not, c_cargs, c_arguments, c_pairs}
+use Rattle.ruby_meaning.proofs.Grammar.Checks.{Quiet, bounded, quiet_comma, c_statements, c_statement, c_expression, c_not_expression, c_right, c_nested, c_one, c_argument, c_ternary, c_or, c_and, c_equality, c_comparison, c_shift, c_sum, c_product, c_minus, c_power, c_not, c_cargs, c_arguments, c_pairs, c_otherwise}
 
 c_all : (n : Production) (d r : Bool) → Checks table (rule_of n d r)
-unfolding table newlines behind_newlines paren closed brace_block do_block block tail paren_tail keyword_value word_value integer_value text ivar_value gvar_value top_constant word_list embedded interpolated parenthesized array label_key pair_in_braces hash_value name_call constant_value super_value yield_value prim dot_part scope_part bracket post not_level power_level minus_level product_level sum_level shift_level comparison_level equal_level equality_level and_level or_level range_level ternary argument command_arguments command_part splat item more_items splat_list other_items one_value nested_value right_side jump_value jump command_level block_argument label_pair arrow_pair arguments_from arguments cargs more_pairs method_name not_expression expression alias_statement undef_statement simple modifier statement line statement_list
+unfolding table then_sign else_part branch otherwise if_value unless_value loop_body while_value until_value when_clause case_value class_header module_body class_value module_value keyword_form newlines behind_newlines paren closed brace_block do_block block tail paren_tail keyword_value word_value integer_value text ivar_value gvar_value top_constant word_list embedded interpolated parenthesized array label_key pair_in_braces hash_value name_call constant_value super_value yield_value prim dot_part scope_part bracket post not_level power_level minus_level product_level sum_level shift_level comparison_level equal_level equality_level and_level or_level range_level ternary argument command_arguments command_part splat item more_items splat_list other_items one_value nested_value right_side jump_value jump command_level block_argument label_pair arrow_pair arguments_from arguments cargs more_pairs method_name not_expression expression alias_statement undef_statement simple modifier statement line statement_list
 c_all p.Statements d r = c_statements r
 c_all p.Statement d r = (λ x. omega arith, c_statement r)
 c_all p.Expression d r = (λ x. omega arith, c_expression d r)
@@ -44,24 +66,25 @@ c_all p.SumOperand d r = (λ x. omega arith, c_product d r)
 c_all p.ProductOperand d r = (λ x. omega arith, c_minus d r)
 c_all p.PowerOperand d r = (λ x. omega arith, c_power d r)
 c_all p.NotOperand d r = (λ x. omega arith, c_not d r)
+c_all p.Otherwise d r = c_otherwise r
 c_all (p.CommandArguments blocks) d r = c_cargs d r blocks
 c_all (p.Arguments blocks) d r = c_arguments d r blocks
 c_all (p.MorePairs blocks) d r = c_pairs d r blocks
 
 g_prim : (d r : Bool) → Guarded table (prim r d)
-unfolding table newlines behind_newlines paren closed brace_block do_block block tail paren_tail keyword_value word_value integer_value text ivar_value gvar_value top_constant word_list embedded interpolated parenthesized array label_key pair_in_braces hash_value name_call constant_value super_value yield_value prim dot_part scope_part bracket post not_level power_level minus_level product_level sum_level shift_level comparison_level equal_level equality_level and_level or_level range_level ternary argument command_arguments command_part splat item more_items splat_list other_items one_value nested_value right_side jump_value jump command_level block_argument label_pair arrow_pair arguments_from arguments cargs more_pairs method_name not_expression expression alias_statement undef_statement simple modifier statement line statement_list
-g_prim d r = ((tt, (tt, (tt, (tt, tt)))), (tt, (tt, (tt, (tt, (tt, (tt, (tt, (tt, (tt, ((tt, inr refl), (tt, (tt, (tt, tt))))))))))))))
+unfolding table then_sign else_part branch otherwise if_value unless_value loop_body while_value until_value when_clause case_value class_header module_body class_value module_value keyword_form newlines behind_newlines paren closed brace_block do_block block tail paren_tail keyword_value word_value integer_value text ivar_value gvar_value top_constant word_list embedded interpolated parenthesized array label_key pair_in_braces hash_value name_call constant_value super_value yield_value prim dot_part scope_part bracket post not_level power_level minus_level product_level sum_level shift_level comparison_level equal_level equality_level and_level or_level range_level ternary argument command_arguments command_part splat item more_items splat_list other_items one_value nested_value right_side jump_value jump command_level block_argument label_pair arrow_pair arguments_from arguments cargs more_pairs method_name not_expression expression alias_statement undef_statement simple modifier statement line statement_list
+g_prim d r = ((tt, (tt, (tt, (tt, tt)))), (tt, (tt, (tt, (tt, (tt, (tt, (tt, (tt, (tt, ((tt, inr refl), (tt, (tt, (tt, (tt, (tt, (tt, (tt, (tt, (tt, (tt, tt)))))))))))))))))))))
 
 g_power : (d r : Bool) → Guarded table (power_level d r)
-unfolding table newlines behind_newlines paren closed brace_block do_block block tail paren_tail keyword_value word_value integer_value text ivar_value gvar_value top_constant word_list embedded interpolated parenthesized array label_key pair_in_braces hash_value name_call constant_value super_value yield_value prim dot_part scope_part bracket post not_level power_level minus_level product_level sum_level shift_level comparison_level equal_level equality_level and_level or_level range_level ternary argument command_arguments command_part splat item more_items splat_list other_items one_value nested_value right_side jump_value jump command_level block_argument label_pair arrow_pair arguments_from arguments cargs more_pairs method_name not_expression expression alias_statement undef_statement simple modifier statement line statement_list
+unfolding table then_sign else_part branch otherwise if_value unless_value loop_body while_value until_value when_clause case_value class_header module_body class_value module_value keyword_form newlines behind_newlines paren closed brace_block do_block block tail paren_tail keyword_value word_value integer_value text ivar_value gvar_value top_constant word_list embedded interpolated parenthesized array label_key pair_in_braces hash_value name_call constant_value super_value yield_value prim dot_part scope_part bracket post not_level power_level minus_level product_level sum_level shift_level comparison_level equal_level equality_level and_level or_level range_level ternary argument command_arguments command_part splat item more_items splat_list other_items one_value nested_value right_side jump_value jump command_level block_argument label_pair arrow_pair arguments_from arguments cargs more_pairs method_name not_expression expression alias_statement undef_statement simple modifier statement line statement_list
 g_power d r = (tt, g_prim d r)
 
 g_minus : (d r : Bool) → Guarded table (minus_level d r)
-unfolding table newlines behind_newlines paren closed brace_block do_block block tail paren_tail keyword_value word_value integer_value text ivar_value gvar_value top_constant word_list embedded interpolated parenthesized array label_key pair_in_braces hash_value name_call constant_value super_value yield_value prim dot_part scope_part bracket post not_level power_level minus_level product_level sum_level shift_level comparison_level equal_level equality_level and_level or_level range_level ternary argument command_arguments command_part splat item more_items splat_list other_items one_value nested_value right_side jump_value jump command_level block_argument label_pair arrow_pair arguments_from arguments cargs more_pairs method_name not_expression expression alias_statement undef_statement simple modifier statement line statement_list
+unfolding table then_sign else_part branch otherwise if_value unless_value loop_body while_value until_value when_clause case_value class_header module_body class_value module_value keyword_form newlines behind_newlines paren closed brace_block do_block block tail paren_tail keyword_value word_value integer_value text ivar_value gvar_value top_constant word_list embedded interpolated parenthesized array label_key pair_in_braces hash_value name_call constant_value super_value yield_value prim dot_part scope_part bracket post not_level power_level minus_level product_level sum_level shift_level comparison_level equal_level equality_level and_level or_level range_level ternary argument command_arguments command_part splat item more_items splat_list other_items one_value nested_value right_side jump_value jump command_level block_argument label_pair arrow_pair arguments_from arguments cargs more_pairs method_name not_expression expression alias_statement undef_statement simple modifier statement line statement_list
 g_minus d r = (tt, g_power d r)
 
 guards : (n : Production) (d r : Bool) → Guarded table (rule_of n d r)
-unfolding table newlines behind_newlines paren closed brace_block do_block block tail paren_tail keyword_value word_value integer_value text ivar_value gvar_value top_constant word_list embedded interpolated parenthesized array label_key pair_in_braces hash_value name_call constant_value super_value yield_value prim dot_part scope_part bracket post not_level power_level minus_level product_level sum_level shift_level comparison_level equal_level equality_level and_level or_level range_level ternary argument command_arguments command_part splat item more_items splat_list other_items one_value nested_value right_side jump_value jump command_level block_argument label_pair arrow_pair arguments_from arguments cargs more_pairs method_name not_expression expression alias_statement undef_statement simple modifier statement line statement_list
+unfolding table then_sign else_part branch otherwise if_value unless_value loop_body while_value until_value when_clause case_value class_header module_body class_value module_value keyword_form newlines behind_newlines paren closed brace_block do_block block tail paren_tail keyword_value word_value integer_value text ivar_value gvar_value top_constant word_list embedded interpolated parenthesized array label_key pair_in_braces hash_value name_call constant_value super_value yield_value prim dot_part scope_part bracket post not_level power_level minus_level product_level sum_level shift_level comparison_level equal_level equality_level and_level or_level range_level ternary argument command_arguments command_part splat item more_items splat_list other_items one_value nested_value right_side jump_value jump command_level block_argument label_pair arrow_pair arguments_from arguments cargs more_pairs method_name not_expression expression alias_statement undef_statement simple modifier statement line statement_list
 guards p.Statements d r = tt
 guards p.Statement d r = (tt, (tt, (tt, (tt, g_minus true r))))
 guards p.Expression d r = (tt, (tt, g_minus d r))
@@ -81,6 +104,7 @@ guards p.SumOperand d r = g_minus d r
 guards p.ProductOperand d r = g_minus d r
 guards p.PowerOperand d r = g_power d r
 guards p.NotOperand d r = (tt, g_prim d r)
+guards p.Otherwise d r = (tt, ((tt, inr refl), tt))
 guards (p.CommandArguments true) d r = (tt, (tt, (tt, g_minus d r)))
 guards (p.CommandArguments false) d r = (tt, (tt, g_minus d r))
 guards (p.Arguments true) d r = (tt, (tt, (tt, g_minus d r)))
@@ -89,15 +113,15 @@ guards (p.MorePairs true) d r = (tt, (tt, tt))
 guards (p.MorePairs false) d r = (tt, tt)
 
 all_begin_statement : (r : Bool) → Included table (first table (value_of (statement r))) (begins p.Statement)
-unfolding table newlines behind_newlines paren closed brace_block do_block block tail paren_tail keyword_value word_value integer_value text ivar_value gvar_value top_constant word_list embedded interpolated parenthesized array label_key pair_in_braces hash_value name_call constant_value super_value yield_value prim dot_part scope_part bracket post not_level power_level minus_level product_level sum_level shift_level comparison_level equal_level equality_level and_level or_level range_level ternary argument command_arguments command_part splat item more_items splat_list other_items one_value nested_value right_side jump_value jump command_level block_argument label_pair arrow_pair arguments_from arguments cargs more_pairs method_name not_expression expression alias_statement undef_statement simple modifier statement line statement_list
+unfolding table then_sign else_part branch otherwise if_value unless_value loop_body while_value until_value when_clause case_value class_header module_body class_value module_value keyword_form newlines behind_newlines paren closed brace_block do_block block tail paren_tail keyword_value word_value integer_value text ivar_value gvar_value top_constant word_list embedded interpolated parenthesized array label_key pair_in_braces hash_value name_call constant_value super_value yield_value prim dot_part scope_part bracket post not_level power_level minus_level product_level sum_level shift_level comparison_level equal_level equality_level and_level or_level range_level ternary argument command_arguments command_part splat item more_items splat_list other_items one_value nested_value right_side jump_value jump command_level block_argument label_pair arrow_pair arguments_from arguments cargs more_pairs method_name not_expression expression alias_statement undef_statement simple modifier statement line statement_list
 all_begin_statement r = refl
 
 all_begin_statements : (r : Bool) → Included table (first table (statement_list r)) (begins p.Statements)
-unfolding table newlines behind_newlines paren closed brace_block do_block block tail paren_tail keyword_value word_value integer_value text ivar_value gvar_value top_constant word_list embedded interpolated parenthesized array label_key pair_in_braces hash_value name_call constant_value super_value yield_value prim dot_part scope_part bracket post not_level power_level minus_level product_level sum_level shift_level comparison_level equal_level equality_level and_level or_level range_level ternary argument command_arguments command_part splat item more_items splat_list other_items one_value nested_value right_side jump_value jump command_level block_argument label_pair arrow_pair arguments_from arguments cargs more_pairs method_name not_expression expression alias_statement undef_statement simple modifier statement line statement_list
+unfolding table then_sign else_part branch otherwise if_value unless_value loop_body while_value until_value when_clause case_value class_header module_body class_value module_value keyword_form newlines behind_newlines paren closed brace_block do_block block tail paren_tail keyword_value word_value integer_value text ivar_value gvar_value top_constant word_list embedded interpolated parenthesized array label_key pair_in_braces hash_value name_call constant_value super_value yield_value prim dot_part scope_part bracket post not_level power_level minus_level product_level sum_level shift_level comparison_level equal_level equality_level and_level or_level range_level ternary argument command_arguments command_part splat item more_items splat_list other_items one_value nested_value right_side jump_value jump command_level block_argument label_pair arrow_pair arguments_from arguments cargs more_pairs method_name not_expression expression alias_statement undef_statement simple modifier statement line statement_list
 all_begin_statements r = refl
 
 all_begin : (n : Production) (d r : Bool) → Included table (first table (rule_of n d r)) (begins n)
-unfolding table newlines behind_newlines paren closed brace_block do_block block tail paren_tail keyword_value word_value integer_value text ivar_value gvar_value top_constant word_list embedded interpolated parenthesized array label_key pair_in_braces hash_value name_call constant_value super_value yield_value prim dot_part scope_part bracket post not_level power_level minus_level product_level sum_level shift_level comparison_level equal_level equality_level and_level or_level range_level ternary argument command_arguments command_part splat item more_items splat_list other_items one_value nested_value right_side jump_value jump command_level block_argument label_pair arrow_pair arguments_from arguments cargs more_pairs method_name not_expression expression alias_statement undef_statement simple modifier statement line statement_list
+unfolding table then_sign else_part branch otherwise if_value unless_value loop_body while_value until_value when_clause case_value class_header module_body class_value module_value keyword_form newlines behind_newlines paren closed brace_block do_block block tail paren_tail keyword_value word_value integer_value text ivar_value gvar_value top_constant word_list embedded interpolated parenthesized array label_key pair_in_braces hash_value name_call constant_value super_value yield_value prim dot_part scope_part bracket post not_level power_level minus_level product_level sum_level shift_level comparison_level equal_level equality_level and_level or_level range_level ternary argument command_arguments command_part splat item more_items splat_list other_items one_value nested_value right_side jump_value jump command_level block_argument label_pair arrow_pair arguments_from arguments cargs more_pairs method_name not_expression expression alias_statement undef_statement simple modifier statement line statement_list
 all_begin p.Statements d r = all_begin_statements r
 all_begin p.Statement d r = all_begin_statement r
 all_begin p.Expression true r = refl
@@ -134,6 +158,8 @@ all_begin p.PowerOperand true r = refl
 all_begin p.PowerOperand false r = refl
 all_begin p.NotOperand true r = refl
 all_begin p.NotOperand false r = refl
+all_begin p.Otherwise true r = refl
+all_begin p.Otherwise false r = refl
 all_begin (p.CommandArguments true) true r = refl
 all_begin (p.CommandArguments false) true r = refl
 all_begin (p.CommandArguments true) false r = refl
@@ -148,15 +174,15 @@ all_begin (p.MorePairs true) false r = refl
 all_begin (p.MorePairs false) false r = refl
 
 all_continue_statement : (r : Bool) → Included table (continues table (value_of (statement r))) (behind p.Statement true)
-unfolding table newlines behind_newlines paren closed brace_block do_block block tail paren_tail keyword_value word_value integer_value text ivar_value gvar_value top_constant word_list embedded interpolated parenthesized array label_key pair_in_braces hash_value name_call constant_value super_value yield_value prim dot_part scope_part bracket post not_level power_level minus_level product_level sum_level shift_level comparison_level equal_level equality_level and_level or_level range_level ternary argument command_arguments command_part splat item more_items splat_list other_items one_value nested_value right_side jump_value jump command_level block_argument label_pair arrow_pair arguments_from arguments cargs more_pairs method_name not_expression expression alias_statement undef_statement simple modifier statement line statement_list
+unfolding table then_sign else_part branch otherwise if_value unless_value loop_body while_value until_value when_clause case_value class_header module_body class_value module_value keyword_form newlines behind_newlines paren closed brace_block do_block block tail paren_tail keyword_value word_value integer_value text ivar_value gvar_value top_constant word_list embedded interpolated parenthesized array label_key pair_in_braces hash_value name_call constant_value super_value yield_value prim dot_part scope_part bracket post not_level power_level minus_level product_level sum_level shift_level comparison_level equal_level equality_level and_level or_level range_level ternary argument command_arguments command_part splat item more_items splat_list other_items one_value nested_value right_side jump_value jump command_level block_argument label_pair arrow_pair arguments_from arguments cargs more_pairs method_name not_expression expression alias_statement undef_statement simple modifier statement line statement_list
 all_continue_statement r = refl
 
 all_continue_statements : (r : Bool) → Included table (continues table (statement_list r)) (behind p.Statements true)
-unfolding table newlines behind_newlines paren closed brace_block do_block block tail paren_tail keyword_value word_value integer_value text ivar_value gvar_value top_constant word_list embedded interpolated parenthesized array label_key pair_in_braces hash_value name_call constant_value super_value yield_value prim dot_part scope_part bracket post not_level power_level minus_level product_level sum_level shift_level comparison_level equal_level equality_level and_level or_level range_level ternary argument command_arguments command_part splat item more_items splat_list other_items one_value nested_value right_side jump_value jump command_level block_argument label_pair arrow_pair arguments_from arguments cargs more_pairs method_name not_expression expression alias_statement undef_statement simple modifier statement line statement_list
+unfolding table then_sign else_part branch otherwise if_value unless_value loop_body while_value until_value when_clause case_value class_header module_body class_value module_value keyword_form newlines behind_newlines paren closed brace_block do_block block tail paren_tail keyword_value word_value integer_value text ivar_value gvar_value top_constant word_list embedded interpolated parenthesized array label_key pair_in_braces hash_value name_call constant_value super_value yield_value prim dot_part scope_part bracket post not_level power_level minus_level product_level sum_level shift_level comparison_level equal_level equality_level and_level or_level range_level ternary argument command_arguments command_part splat item more_items splat_list other_items one_value nested_value right_side jump_value jump command_level block_argument label_pair arrow_pair arguments_from arguments cargs more_pairs method_name not_expression expression alias_statement undef_statement simple modifier statement line statement_list
 all_continue_statements r = refl
 
 all_continue : (n : Production) (d r : Bool) → Included table (continues table (rule_of n d r)) (behind n d)
-unfolding table newlines behind_newlines paren closed brace_block do_block block tail paren_tail keyword_value word_value integer_value text ivar_value gvar_value top_constant word_list embedded interpolated parenthesized array label_key pair_in_braces hash_value name_call constant_value super_value yield_value prim dot_part scope_part bracket post not_level power_level minus_level product_level sum_level shift_level comparison_level equal_level equality_level and_level or_level range_level ternary argument command_arguments command_part splat item more_items splat_list other_items one_value nested_value right_side jump_value jump command_level block_argument label_pair arrow_pair arguments_from arguments cargs more_pairs method_name not_expression expression alias_statement undef_statement simple modifier statement line statement_list
+unfolding table then_sign else_part branch otherwise if_value unless_value loop_body while_value until_value when_clause case_value class_header module_body class_value module_value keyword_form newlines behind_newlines paren closed brace_block do_block block tail paren_tail keyword_value word_value integer_value text ivar_value gvar_value top_constant word_list embedded interpolated parenthesized array label_key pair_in_braces hash_value name_call constant_value super_value yield_value prim dot_part scope_part bracket post not_level power_level minus_level product_level sum_level shift_level comparison_level equal_level equality_level and_level or_level range_level ternary argument command_arguments command_part splat item more_items splat_list other_items one_value nested_value right_side jump_value jump command_level block_argument label_pair arrow_pair arguments_from arguments cargs more_pairs method_name not_expression expression alias_statement undef_statement simple modifier statement line statement_list
 all_continue p.Statements d r = all_continue_statements r
 all_continue p.Statement d r = all_continue_statement r
 all_continue p.Expression true r = refl
@@ -193,6 +219,8 @@ all_continue p.PowerOperand true r = refl
 all_continue p.PowerOperand false r = refl
 all_continue p.NotOperand true r = refl
 all_continue p.NotOperand false r = refl
+all_continue p.Otherwise true r = refl
+all_continue p.Otherwise false r = refl
 all_continue (p.CommandArguments true) true r = refl
 all_continue (p.CommandArguments false) true r = refl
 all_continue (p.CommandArguments true) false r = refl
@@ -219,7 +247,7 @@ with_value n t c e h = and_both c _ e (by (nat_eq n act.commanded) (op mark.Comm
     by false false h = refl
 
 value_by : (n : Production) (d r : Bool) (x : El Seen Node (sort_of n)) (t : ℕ) → t < size → GoesOn table (rule_of n d r) x t → goes_on_of n d x t ≡ true
-unfolding table newlines behind_newlines paren closed brace_block do_block block tail paren_tail keyword_value word_value integer_value text ivar_value gvar_value top_constant word_list embedded interpolated parenthesized array label_key pair_in_braces hash_value name_call constant_value super_value yield_value prim dot_part scope_part bracket post not_level power_level minus_level product_level sum_level shift_level comparison_level equal_level equality_level and_level or_level range_level ternary argument command_arguments command_part splat item more_items splat_list other_items one_value nested_value right_side jump_value jump command_level block_argument label_pair arrow_pair arguments_from arguments cargs more_pairs method_name not_expression expression alias_statement undef_statement simple modifier statement line statement_list Quiet
+unfolding table then_sign else_part branch otherwise if_value unless_value loop_body while_value until_value when_clause case_value class_header module_body class_value module_value keyword_form newlines behind_newlines paren closed brace_block do_block block tail paren_tail keyword_value word_value integer_value text ivar_value gvar_value top_constant word_list embedded interpolated parenthesized array label_key pair_in_braces hash_value name_call constant_value super_value yield_value prim dot_part scope_part bracket post not_level power_level minus_level product_level sum_level shift_level comparison_level equal_level equality_level and_level or_level range_level ternary argument command_arguments command_part splat item more_items splat_list other_items one_value nested_value right_side jump_value jump command_level block_argument label_pair arrow_pair arguments_from arguments cargs more_pairs method_name not_expression expression alias_statement undef_statement simple modifier statement line statement_list Quiet
 value_by p.OneValue d r x t less g = with_value x.1 t (behind p.OneValue d t) (class_of p.OneValue d r x t less g) (λ k j. quiet_comma d r x k t less g j)
 value_by p.NestedValue d r x t less (inl (n, e, g)) = with_value x.1 t (behind p.NestedValue d t) (class_of p.NestedValue d r x t less (inl (n, e, g))) (λ k j. true≢false (sym (subst (λ z. not (nat_eq z.1 act.commanded) ≡ true) e k)))
 value_by p.NestedValue d r x t less (inr (inl g)) = with_value x.1 t (behind p.NestedValue d t) (class_of p.NestedValue d r x t less (inr (inl g))) (λ k j. quiet_comma d r x k t less g j)
@@ -241,12 +269,13 @@ value_by p.SumOperand d r x t less g = class_of p.SumOperand d r x t less g
 value_by p.ProductOperand d r x t less g = class_of p.ProductOperand d r x t less g
 value_by p.PowerOperand d r x t less g = class_of p.PowerOperand d r x t less g
 value_by p.NotOperand d r x t less g = class_of p.NotOperand d r x t less g
+value_by p.Otherwise d r x t less g = class_of p.Otherwise d r x t less g
 value_by (p.CommandArguments blocks) d r x t less g = class_of (p.CommandArguments blocks) d r x t less g
 value_by (p.Arguments blocks) d r x t less g = class_of (p.Arguments blocks) d r x t less g
 value_by (p.MorePairs blocks) d r x t less g = class_of (p.MorePairs blocks) d r x t less g
 
 empties : (n : Production) (d r : Bool) → nullable table (rule_of n d r) ≡ true → is_nullable n ≡ true
-unfolding table newlines behind_newlines paren closed brace_block do_block block tail paren_tail keyword_value word_value integer_value text ivar_value gvar_value top_constant word_list embedded interpolated parenthesized array label_key pair_in_braces hash_value name_call constant_value super_value yield_value prim dot_part scope_part bracket post not_level power_level minus_level product_level sum_level shift_level comparison_level equal_level equality_level and_level or_level range_level ternary argument command_arguments command_part splat item more_items splat_list other_items one_value nested_value right_side jump_value jump command_level block_argument label_pair arrow_pair arguments_from arguments cargs more_pairs method_name not_expression expression alias_statement undef_statement simple modifier statement line statement_list
+unfolding table then_sign else_part branch otherwise if_value unless_value loop_body while_value until_value when_clause case_value class_header module_body class_value module_value keyword_form newlines behind_newlines paren closed brace_block do_block block tail paren_tail keyword_value word_value integer_value text ivar_value gvar_value top_constant word_list embedded interpolated parenthesized array label_key pair_in_braces hash_value name_call constant_value super_value yield_value prim dot_part scope_part bracket post not_level power_level minus_level product_level sum_level shift_level comparison_level equal_level equality_level and_level or_level range_level ternary argument command_arguments command_part splat item more_items splat_list other_items one_value nested_value right_side jump_value jump command_level block_argument label_pair arrow_pair arguments_from arguments cargs more_pairs method_name not_expression expression alias_statement undef_statement simple modifier statement line statement_list
 empties p.Statements d r h = refl
 empties p.Statement d r h = h
 empties p.Expression d r h = h
@@ -266,6 +295,7 @@ empties p.SumOperand d r h = h
 empties p.ProductOperand d r h = h
 empties p.PowerOperand d r h = h
 empties p.NotOperand d r h = h
+empties p.Otherwise d r h = refl
 empties (p.CommandArguments true) d r h = h
 empties (p.CommandArguments false) d r h = h
 empties (p.Arguments true) d r h = h
