@@ -708,3 +708,20 @@ form_name (None, n) = []
 abbrev pub form_place : Seen → Option Seen × Option Node → Pos
 form_place t (Some name, superclass) = start name
 form_place t (None, n) = start t
+
+abbrev pub name_if : Option Seen → Option (List ℕ)
+name_if None = None
+name_if (Some t) = Some (units t)
+
+-- the place of the name, or of the `rescue`
+abbrev pub rescue_place : Seen → Option Seen → Pos
+rescue_place t None = start t
+rescue_place t (Some name) = start name
+
+-- a name without ? or !
+abbrev pub is_variable_name : Seen → Bool
+is_variable_name t = is_plain_name t.token.kind
+
+-- a body with clauses; the form that holds it sets its span
+abbrev pub with_handlers : Seen × (Node × ℕ) → List Node × (Option Node × Option Node) → Seen × (Node × ℕ)
+with_handlers l x = (l.0, (make (kind.Begin (filled (span_of l.0) l.1) x.0 (x.1.0) (x.1.1)) (span_of l.0) (start l.0), 0))

@@ -1,6 +1,6 @@
 -- Forms that begin with a keyword and end with "end".
 use Rattle.std.specs.Prelude.{ℕ, Bool, true, false, List, [], ◌∷◌, Option, Some, None}
-use Rattle.grammar.specs.Rules.{Sort, leaf, tree, marked, pair, list, optional, El, token, absent, sequence, choice, view, node, many, needs, named}
+use Rattle.grammar.specs.Rules.{Sort, leaf, tree, marked, pair, list, optional, El, token, absent, sequence, choice, view, node, many, suffix, needs, named, token_where}
 use Rattle.grammar.specs.CommonRules.{◌or◌, behind, before, maybe, separated}
 use Rattle.ruby_meaning.specs.declared.production.Production.TheVariants as p
 use Rattle.ruby_meaning.specs.declared.production.Sign.TheVariants as sign
@@ -12,7 +12,7 @@ use Rattle.ruby_meaning.specs.declared.tree.Node.{Node}
 use Rattle.ruby_meaning.specs.Grammar.Seen.{Seen}
 use Rattle.ruby_meaning.specs.Grammar.Classes.{a, op, key}
 use Rattle.ruby_meaning.specs.Grammar.Names.{R, part}
-use Rattle.ruby_meaning.specs.Grammar.Actions.{make, start, span_of, tokens, to_end, other, filled, nothing, last_of, last_then, elsif_span, replaced, form_of, form_name, form_place, units}
+use Rattle.ruby_meaning.specs.Grammar.Actions.{make, start, span_of, tokens, to_end, other, filled, nothing, last_of, last_then, elsif_span, replaced, form_of, form_name, form_place, units, name_if, rescue_place, is_variable_name, with_handlers, begun}
 
 abbrev pub separators : ℕ → Bool
 separators = a sign.Newline or op mark.Semicolon
@@ -91,6 +91,34 @@ module _ (in_rescue : Bool) where
   class_header = choice (sequence (view {s = leaf} (λ t. Some t) (token (a sign.Const))) (maybe (behind (op mark.Less) (named (part p.Expression true in_rescue)))))
       (view {s = tree} (λ n. (None, Some n)) (behind (op mark.ShiftLeft) (named (part p.Expression true in_rescue))))
 
+  -- "rescue" [arg ("," arg)*] ["=>" name] then stmts
+  unfoldable pub rescue_clause : R tree
+  rescue_clause = node {s = pair leaf (pair (list tree) (pair (optional leaf) (pair leaf (marked tree))))}
+      (λ x. make (kind.Rescue (x.1.0) (name_if (x.1.1.0)) (filled (to_end (span_of x.0) (last_of (x.1.1.1.0) (x.1.1.1.1))) (x.1.1.1.1))) (to_end (span_of x.0) (last_of (x.1.1.1.0) (x.1.1.1.1))) (rescue_place x.0 (x.1.1.0)))
+      (sequence (token (key word.Rescue)) (sequence (choice (separated (named (part p.Argument true in_rescue)) (op mark.Comma)) (absent []))
+      (sequence (maybe (behind (op mark.FatArrow) (token_where (a sign.Name) is_variable_name)))
+      (sequence then_sign (named (part p.Statements true true))))))
+
+  unfoldable pub body_else : R tree
+  body_else = view {s = pair leaf (marked tree)} (λ x. filled (span_of x.0) x.1) (sequence (token (key word.Else)) statements_here)
+
+  unfoldable pub body_ensure : R tree
+  body_ensure = view {s = pair leaf (marked tree)} (λ x. filled (span_of x.0) x.1) (sequence (token (key word.Ensure)) statements_here)
+
+  abbrev pub handlers_sort : Sort
+  handlers_sort = pair (list tree) (pair (optional tree) (optional tree))
+
+  -- what stands behind the first statements of a body: one part at least
+  unfoldable pub handlers : R handlers_sort
+  handlers = choice (view {s = pair (pair tree (list tree)) (pair (optional tree) (optional tree))} (λ x. (x.0.0 ∷ x.0.1, x.1)) (sequence (sequence rescue_clause (many rescue_clause)) (sequence (maybe body_else) (maybe body_ensure))))
+      (choice (view {s = pair tree (optional tree)} (λ x. ([], (Some x.0, x.1))) (sequence body_else (maybe body_ensure)))
+      (view {s = tree} (λ x. ([], (None, Some x))) body_ensure))
+
+  -- "begin" body "end", where body : stmts ("rescue" .. then stmts)* ["else" stmts] ["ensure" stmts]
+  unfoldable pub begin_value : R (marked tree)
+  begin_value = view {s = pair (pair leaf (marked tree)) leaf} (λ x. (replaced (tokens (x.0.0) x.1) (start (x.0.0)) (x.0.1.0), begun))
+      (sequence (suffix {s = pair leaf (marked tree)} {r = handlers_sort} 1 (sequence (token (key word.Begin)) statements_here) (λ l. true) handlers with_handlers) (token (key word.End)))
+
 -- sep stmts "end"
 unfoldable pub module_body : R (pair (marked tree) leaf)
 module_body = behind separators (sequence (named (part p.Statements true false)) (token (key word.End)))
@@ -109,4 +137,4 @@ module_value = node {s = pair leaf (pair leaf (pair (marked tree) leaf))}
 
 -- a form from a keyword to its "end"
 unfoldable pub keyword_form : Bool → R (marked tree)
-keyword_form in_rescue = choice (if_value in_rescue) (choice (unless_value in_rescue) (choice (while_value in_rescue) (choice (until_value in_rescue) (choice (case_value in_rescue) (choice (class_value in_rescue) module_value)))))
+keyword_form in_rescue = choice (if_value in_rescue) (choice (unless_value in_rescue) (choice (while_value in_rescue) (choice (until_value in_rescue) (choice (case_value in_rescue) (choice (class_value in_rescue) (choice module_value (begin_value in_rescue)))))))

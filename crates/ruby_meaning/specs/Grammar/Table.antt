@@ -52,7 +52,7 @@ begins_simple_value = a sign.Name or a sign.Const or a sign.Ivar or a sign.Gvar 
     or marked_op mark.WordsRound or marked_op mark.WordsSquare or marked_op mark.SymbolsRound or marked_op mark.SymbolsSquare
     or op mark.ColonColon or marked_op mark.ColonColon or op mark.ParenOpen or marked_op mark.ParenOpen
     or op mark.BracketOpen or marked_op mark.BracketOpen or op mark.BraceOpen or op mark.Bang or op mark.Minus or marked_op mark.Minus
-    or key word.Case or key word.Class or key word.Module
+    or key word.Case or key word.Class or key word.Module or key word.Begin
 
 abbrev pub begins_value : ℕ → Bool
 begins_value = begins_simple_value or key word.If or key word.Unless or key word.While or key word.Until
