@@ -1,21 +1,17 @@
 -- One token tells how to go on: the checks of the rules.
-use Rattle.std.proofs.Common.{◌≡◌, ℕ, zero, suc, ◌≤◌, ◌<◌, max, Bool, true, false, ◌&&◌, ◌||◌, List, [], ◌∷◌, ◌++◌, map, Option, Some, None, ◌⊎◌, inl, inr, refl, sym, ap, ◌∙◌, subst, arith, true≢false}
+use Rattle.std.proofs.Common.{◌≡◌, ℕ, zero, suc, ◌≤◌, ◌<◌, max, Bool, true, false, ◌&&◌, ◌||◌, List, [], ◌∷◌, map, Option, Some, None, ◌⊎◌, inl, inr, refl, sym, ap, ◌∙◌, subst, arith, true≢false}
 use Rattle.std.specs.Prelude.{nat_eq, not, is_some, codes, if◌then◌else◌}
 use Rattle.grammar.specs.Forms.{deepest}
-use Rattle.grammar.specs.Rules.{Sort, leaf, tree, marked, pair, list, optional, under, El, Rule, node, view, choice, named, suffix, Held, deep, deep_if}
-use Rattle.grammar.specs.Checks.{nullable, first, continues, GoesOn, Disjoint, Included, Checks, Guarded}
-use Rattle.grammar.specs.CommonRules.{class, ◌or◌, before, maybe, separated}
+use Rattle.grammar.specs.Rules.{Sort, leaf, tree, marked, pair, optional, under, El, node, view, choice, named, suffix, Held, deep_if}
+use Rattle.grammar.specs.Checks.{nullable, first, continues, GoesOn, Disjoint, Included, Checks}
 use Rattle.grammar.specs.CommonRules.{behind as behind_token}
-use Rattle.grammar.proofs.Depths.{deepest_flat, deepest_append}
+use Rattle.grammar.proofs.Depths.{deepest_flat}
 use Rattle.grammar.proofs.Classes.{clear_at, included_at, continues_of}
 use Rattle.grammar.proofs.CommonChecks.{behind_checks}
 use Rattle.grammar.proofs.Lists.{and_split, and_both}
-use Rattle.ruby_meaning.specs.declared.production.Sign.TheVariants as sign
 use Rattle.ruby_meaning.specs.declared.token.Mark.TheVariants as mark
 use Rattle.ruby_meaning.specs.declared.token.Word.{Word}
 use Rattle.ruby_meaning.specs.declared.token.Word.TheVariants as word
-use Rattle.ruby_meaning.specs.declared.token.TokenKind.{TokenKind}
-use Rattle.ruby_meaning.specs.declared.token.TokenKind.TheVariants as token
 use Rattle.ruby_meaning.specs.declared.tree.Base.TheVariants as base
 use Rattle.ruby_meaning.specs.declared.tree.Kind.{Kind}
 use Rattle.ruby_meaning.specs.declared.tree.Kind.TheVariants as kind
@@ -25,7 +21,7 @@ use Rattle.opal_base.specs.declared.place.Span.{Span}
 use Rattle.ruby_meaning.specs.declared.tree.Node.{Node}
 use Rattle.ruby_meaning.specs.Depth.{depth_of, params_depth, form_depth}
 use Rattle.ruby_meaning.specs.Grammar.Seen.{Seen}
-use Rattle.ruby_meaning.specs.Grammar.Classes.{size, mark_code, a, op, marked_op, key}
+use Rattle.ruby_meaning.specs.Grammar.Classes.{size, mark_code, op, key}
 use Rattle.ruby_meaning.specs.declared.production.Part.{Part}
 use Rattle.ruby_meaning.specs.declared.production.Production.{Production}
 use Rattle.ruby_meaning.specs.declared.production.Production.TheVariants as p
@@ -36,12 +32,12 @@ use Rattle.ruby_meaning.specs.Grammar.Calls.{newlines, behind_newlines, closed, 
 use Rattle.ruby_meaning.specs.declared.tree.ModuleForm.TheVariants as form
 use Rattle.ruby_meaning.specs.Grammar.Definitions.{then_sign, else_part, branch, otherwise, if_value, unless_value, loop_body, while_value, until_value, when_clause, case_value, class_header, rescue_clause, body_else, body_ensure, handlers, begin_value, module_body, class_value, module_value, keyword_form}
 use Rattle.ruby_meaning.specs.Grammar.Primaries.{keyword_value, word_value, integer_value, text, ivar_value, gvar_value, top_constant, word_list, embedded, interpolated, parenthesized, array, label_key, pair_in_braces, hash_value, name_call, constant_value, super_value, yield_value, prim, dot_part, scope_part, bracket, post}
-use Rattle.ruby_meaning.specs.Grammar.Expressions.{plain, value_of, not_level, power_level, minus_level, product_level, sum_level, shift_level, comparison_level, equal_level, equality_level, and_level, or_level, range_level, ternary, updates, set_part, update_part, two_nodes, assignment, argument, begins_marked, begins_plain, command_arguments, do_beside, command_part, commanding, splat, item, more_items, splat_list, other_items, one_value, nested_value, right_side, jump_value, jump, command_level, block_argument, label_pair, arrow_pair, after_comma, with_block, finished, arguments_from, arguments, cargs, more_pairs}
+use Rattle.ruby_meaning.specs.Grammar.Expressions.{plain, not_level, power_level, minus_level, product_level, sum_level, shift_level, comparison_level, equal_level, equality_level, and_level, or_level, range_level, ternary, updates, set_part, update_part, two_nodes, assignment, argument, command_arguments, do_beside, command_part, commanding, splat, item, more_items, splat_list, other_items, one_value, nested_value, right_side, jump_value, jump, command_level, block_argument, label_pair, arrow_pair, after_comma, finished, arguments_from, arguments, cargs, more_pairs}
 use Rattle.ruby_meaning.specs.Grammar.Statements.{method_name, not_expression, expression, alias_statement, undef_statement, simple, modifier, statement, line, statement_list}
-use Rattle.ruby_meaning.specs.Grammar.Table.{table, begins_command, behind_argument, value_goes_on, goes_on_of}
+use Rattle.ruby_meaning.specs.Grammar.Table.{table, begins_command, value_goes_on, goes_on_of}
 use Rattle.ruby_meaning.specs.Grammar.Table.{continues as behind}
 use Rattle.ruby_meaning.proofs.Grammar.Depths as d
-use Rattle.ruby_meaning.proofs.Grammar.ActionDepths.{args_depth, filled_deep, replaced_deep, items_deep, named_deep, constant_deep, super_deep, yield_deep, part_deep, selector_deep, some_level, joined_deep, statements_deep, sequence_deep, jump_deep, array_deep, callee_is, assigned_deep, variable_deep, attribute_deep, taken, command_deep, yield_command_deep, key_deep, more_deep, single_open, pair_open}
+use Rattle.ruby_meaning.proofs.Grammar.ActionDepths.{args_depth, filled_deep, replaced_deep, items_deep, named_deep, constant_deep, super_deep, yield_deep, part_deep, selector_deep, some_level, joined_deep, statements_deep, sequence_deep, jump_deep, array_deep, assigned_deep, variable_deep, attribute_deep, command_deep, yield_command_deep, key_deep, more_deep, single_open, pair_open}
 
 no_params_deep : params_depth act.no_params ≡ 0
 no_params_deep = d.depth_params _

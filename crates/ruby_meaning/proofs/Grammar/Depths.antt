@@ -1,5 +1,5 @@
 -- How deep each node is, by its kind.
-use Rattle.std.proofs.Common.{◌≡◌, ℕ, ℤ, suc, max, Bool, List, [], ◌∷◌, map, Option, Some, None, refl, sym, ap, ◌∙◌, arith, ◌≤◌}
+use Rattle.std.proofs.Common.{◌≡◌, ℕ, ℤ, suc, max, Bool, List, [], ◌∷◌, map, Option, Some, None, refl, sym, ap, ◌∙◌, arith}
 use Rattle.opal_base.specs.declared.place.Pos.{Pos}
 use Rattle.opal_base.specs.declared.place.Span.{Span}
 use Rattle.grammar.specs.Forms.{deepest}
@@ -15,7 +15,7 @@ use Rattle.ruby_meaning.specs.declared.tree.Params.{Params, Params-F, roll-Param
 use Rattle.ruby_meaning.specs.declared.tree.Literal.{Literal}
 use Rattle.ruby_meaning.specs.declared.tree.JumpKind.{JumpKind}
 use Rattle.ruby_meaning.specs.declared.tree.Operator.{Operator}
-use Rattle.ruby_meaning.specs.Depth.{highest, optional, highest_of, of_base, of_kind, of_form, of_params, depth_of, kind_depth, base_depth, form_depth, params_depth}
+use Rattle.ruby_meaning.specs.Depth.{highest, of_base, of_kind, of_form, of_params, depth_of, kind_depth, base_depth, form_depth, params_depth}
 use Rattle.ruby_meaning.specs.Grammar.Actions.{make}
 
 pub depth_made : (k : Kind) (s : Span) (m : Pos) → depth_of (make k s m) ≡ suc (kind_depth k)

@@ -1,15 +1,13 @@
 -- Forms that begin with a keyword and end with "end".
-use Rattle.std.specs.Prelude.{ℕ, Bool, true, false, List, [], ◌∷◌, Option, Some, None}
-use Rattle.grammar.specs.Rules.{Sort, leaf, tree, marked, pair, list, optional, El, token, absent, sequence, choice, view, node, many, suffix, needs, named, token_where}
-use Rattle.grammar.specs.CommonRules.{◌or◌, behind, before, maybe, separated}
+use Rattle.std.specs.Prelude.{ℕ, Bool, true, false, [], ◌∷◌, Some, None}
+use Rattle.grammar.specs.Rules.{Sort, leaf, tree, marked, pair, list, optional, token, absent, sequence, choice, view, node, many, suffix, needs, named, token_where}
+use Rattle.grammar.specs.CommonRules.{◌or◌, behind, maybe, separated}
 use Rattle.ruby_meaning.specs.declared.production.Production.TheVariants as p
 use Rattle.ruby_meaning.specs.declared.production.Sign.TheVariants as sign
 use Rattle.ruby_meaning.specs.declared.token.Mark.TheVariants as mark
 use Rattle.ruby_meaning.specs.declared.token.Word.TheVariants as word
 use Rattle.ruby_meaning.specs.declared.tree.Kind.TheVariants as kind
 use Rattle.ruby_meaning.specs.declared.tree.ModuleForm.TheVariants as form
-use Rattle.ruby_meaning.specs.declared.tree.Node.{Node}
-use Rattle.ruby_meaning.specs.Grammar.Seen.{Seen}
 use Rattle.ruby_meaning.specs.Grammar.Classes.{a, op, key}
 use Rattle.ruby_meaning.specs.Grammar.Names.{R, part}
 use Rattle.ruby_meaning.specs.Grammar.Actions.{make, start, span_of, tokens, to_end, other, filled, nothing, last_of, last_then, elsif_span, replaced, form_of, form_name, form_place, units, name_if, rescue_place, is_variable_name, with_handlers, begun}
