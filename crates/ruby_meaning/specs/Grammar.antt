@@ -3,6 +3,7 @@ pub mod Seen
 pub mod Actions
 pub mod Names
 pub mod Calls
+pub mod Definitions
 pub mod Primaries
 pub mod Expressions
 pub mod Statements

@@ -75,6 +75,8 @@ pub enum Production {
     Arguments(bool),
     /// `arguments` behind a pair
     MorePairs(bool),
+    /// What stands behind the first part of an `if`: `elsif` parts and an `else`.
+    Otherwise,
 }
 
 /// A production where it stands: whether it may take a `do` block, and whether it stands in the

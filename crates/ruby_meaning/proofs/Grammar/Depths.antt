@@ -8,7 +8,8 @@ use Rattle.ruby_meaning.specs.declared.tree.Base.{Base, Base-F, out-Base, roll-B
 use Rattle.ruby_meaning.specs.declared.tree.Base.TheVariants as base
 use Rattle.ruby_meaning.specs.declared.tree.Kind.{Kind, Kind-F, out-Kind, roll-Kind, roll-out-Kind, map-Kind, fold-roll-Kind}
 use Rattle.ruby_meaning.specs.declared.tree.Kind.TheVariants as kind
-use Rattle.ruby_meaning.specs.declared.tree.ModuleForm.{ModuleForm}
+use Rattle.ruby_meaning.specs.declared.tree.ModuleForm.{ModuleForm, ModuleForm-F, roll-ModuleForm, map-ModuleForm, fold-roll-ModuleForm}
+use Rattle.ruby_meaning.specs.declared.tree.ModuleForm.TheVariants as form
 use Rattle.ruby_meaning.specs.declared.tree.Node.{Node, fold-roll-Node}
 use Rattle.ruby_meaning.specs.declared.tree.Params.{Params, Params-F, roll-Params, fold-roll-Params}
 use Rattle.ruby_meaning.specs.declared.tree.Literal.{Literal}
@@ -200,3 +201,19 @@ depth_layer n = depth_made n.kind n.span n.mark ∙ ap suc (ap kind_depth (sym (
 
 pub depth_out_base : (x : Base) → base_depth x ≡ of_base (map-Base Base Kind ModuleForm Node Params ℕ ℕ ℕ ℕ ℕ base_depth kind_depth form_depth depth_of params_depth (out-Base x))
 depth_out_base x = ap base_depth (sym (roll-out-Base x)) ∙ depth_base (out-Base x)
+
+-- ---- what a module definition makes
+
+depth_form : (l : ModuleForm-F Base Kind ModuleForm Node Params) → form_depth (roll-ModuleForm l) ≡ of_form (map-ModuleForm Base Kind ModuleForm Node Params ℕ ℕ ℕ ℕ ℕ base_depth kind_depth form_depth depth_of params_depth l)
+unfolding depth_of kind_depth base_depth form_depth params_depth
+depth_form l = fold-roll-ModuleForm ℕ ℕ ℕ ℕ ℕ of_base of_kind of_form (λ node. suc node.kind) of_params l
+
+pub depth_class : (o : Option Node) → form_depth (form.Class o) ≡ deep_if depth_of o
+depth_class None = ap form_depth (sym (form.rolls-Class None)) ∙ depth_form (ModuleForm-F.Class None)
+depth_class (Some n) = ap form_depth (sym (form.rolls-Class (Some n))) ∙ depth_form (ModuleForm-F.Class (Some n))
+
+pub depth_module : form_depth form.Module ≡ 0
+depth_module = ap form_depth (sym form.rolls-Module) ∙ depth_form ModuleForm-F.Module
+
+pub depth_singleton : (n : Node) → form_depth (form.Singleton n) ≡ depth_of n
+depth_singleton n = ap form_depth (sym (form.rolls-Singleton n)) ∙ depth_form (ModuleForm-F.Singleton n)

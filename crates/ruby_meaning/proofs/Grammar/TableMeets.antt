@@ -15,16 +15,17 @@ use Rattle.ruby_meaning.specs.Grammar.Names.{sort_of, part}
 use Rattle.ruby_meaning.specs.Grammar.Actions as act
 use Rattle.ruby_meaning.specs.Grammar.Actions.{make, Args}
 use Rattle.ruby_meaning.specs.Grammar.Calls.{newlines, behind_newlines, closed, paren, brace_block, do_block, block, tail, paren_tail}
+use Rattle.ruby_meaning.specs.Grammar.Definitions.{then_sign, else_part, branch, otherwise, if_value, unless_value, loop_body, while_value, until_value, when_clause, case_value, class_header, rescue_clause, body_else, body_ensure, handlers, begin_value, module_body, class_value, module_value, keyword_form}
 use Rattle.ruby_meaning.specs.Grammar.Primaries.{keyword_value, word_value, integer_value, text, ivar_value, gvar_value, top_constant, word_list, embedded, interpolated, parenthesized, array, label_key, pair_in_braces, hash_value, name_call, constant_value, super_value, yield_value, prim, dot_part, scope_part, bracket, post}
 use Rattle.ruby_meaning.specs.Grammar.Expressions.{value_of, not_level, power_level, minus_level, product_level, sum_level, shift_level, comparison_level, equal_level, equality_level, and_level, or_level, range_level, ternary, argument, command_arguments, command_part, splat, item, more_items, splat_list, other_items, one_value, nested_value, right_side, jump_value, jump, command_level, block_argument, label_pair, arrow_pair, arguments_from, arguments, cargs, more_pairs}
 use Rattle.ruby_meaning.specs.Grammar.Statements.{method_name, not_expression, expression, alias_statement, undef_statement, simple, modifier, statement, line, statement_list}
 use Rattle.ruby_meaning.specs.Grammar.Table.{table, rule_of, begins, is_nullable, value_goes_on, goes_on_of}
 use Rattle.ruby_meaning.specs.Grammar.Table.{continues as behind}
 use Rattle.ruby_meaning.proofs.Grammar.Codes.{code_within}
-use Rattle.ruby_meaning.proofs.Grammar.Checks.{Quiet, bounded, quiet_comma, c_statements, c_statement, c_expression, c_not_expression, c_right, c_nested, c_one, c_argument, c_ternary, c_or, c_and, c_equality, c_comparison, c_shift, c_sum, c_product, c_minus, c_power, c_not, c_cargs, c_arguments, c_pairs}
+use Rattle.ruby_meaning.proofs.Grammar.Checks.{Quiet, bounded, quiet_comma, c_statements, c_statement, c_expression, c_not_expression, c_right, c_nested, c_one, c_argument, c_ternary, c_or, c_and, c_equality, c_comparison, c_shift, c_sum, c_product, c_minus, c_power, c_not, c_cargs, c_arguments, c_pairs, c_otherwise}
 
 c_all : (n : Production) (d r : Bool) → Checks table (rule_of n d r)
-unfolding table newlines behind_newlines paren closed brace_block do_block block tail paren_tail keyword_value word_value integer_value text ivar_value gvar_value top_constant word_list embedded interpolated parenthesized array label_key pair_in_braces hash_value name_call constant_value super_value yield_value prim dot_part scope_part bracket post not_level power_level minus_level product_level sum_level shift_level comparison_level equal_level equality_level and_level or_level range_level ternary argument command_arguments command_part splat item more_items splat_list other_items one_value nested_value right_side jump_value jump command_level block_argument label_pair arrow_pair arguments_from arguments cargs more_pairs method_name not_expression expression alias_statement undef_statement simple modifier statement line statement_list
+unfolding table then_sign else_part branch otherwise if_value unless_value loop_body while_value until_value when_clause case_value class_header rescue_clause body_else body_ensure handlers begin_value module_body class_value module_value keyword_form newlines behind_newlines paren closed brace_block do_block block tail paren_tail keyword_value word_value integer_value text ivar_value gvar_value top_constant word_list embedded interpolated parenthesized array label_key pair_in_braces hash_value name_call constant_value super_value yield_value prim dot_part scope_part bracket post not_level power_level minus_level product_level sum_level shift_level comparison_level equal_level equality_level and_level or_level range_level ternary argument command_arguments command_part splat item more_items splat_list other_items one_value nested_value right_side jump_value jump command_level block_argument label_pair arrow_pair arguments_from arguments cargs more_pairs method_name not_expression expression alias_statement undef_statement simple modifier statement line statement_list
 c_all p.Statements d r = c_statements r
 c_all p.Statement d r = (λ x. omega arith, c_statement r)
 c_all p.Expression d r = (λ x. omega arith, c_expression d r)
@@ -44,24 +45,25 @@ c_all p.SumOperand d r = (λ x. omega arith, c_product d r)
 c_all p.ProductOperand d r = (λ x. omega arith, c_minus d r)
 c_all p.PowerOperand d r = (λ x. omega arith, c_power d r)
 c_all p.NotOperand d r = (λ x. omega arith, c_not d r)
+c_all p.Otherwise d r = c_otherwise r
 c_all (p.CommandArguments blocks) d r = c_cargs d r blocks
 c_all (p.Arguments blocks) d r = c_arguments d r blocks
 c_all (p.MorePairs blocks) d r = c_pairs d r blocks
 
 g_prim : (d r : Bool) → Guarded table (prim r d)
-unfolding table newlines behind_newlines paren closed brace_block do_block block tail paren_tail keyword_value word_value integer_value text ivar_value gvar_value top_constant word_list embedded interpolated parenthesized array label_key pair_in_braces hash_value name_call constant_value super_value yield_value prim dot_part scope_part bracket post not_level power_level minus_level product_level sum_level shift_level comparison_level equal_level equality_level and_level or_level range_level ternary argument command_arguments command_part splat item more_items splat_list other_items one_value nested_value right_side jump_value jump command_level block_argument label_pair arrow_pair arguments_from arguments cargs more_pairs method_name not_expression expression alias_statement undef_statement simple modifier statement line statement_list
-g_prim d r = ((tt, (tt, (tt, (tt, tt)))), (tt, (tt, (tt, (tt, (tt, (tt, (tt, (tt, (tt, ((tt, inr refl), (tt, (tt, (tt, tt))))))))))))))
+unfolding table then_sign else_part branch otherwise if_value unless_value loop_body while_value until_value when_clause case_value class_header rescue_clause body_else body_ensure handlers begin_value module_body class_value module_value keyword_form newlines behind_newlines paren closed brace_block do_block block tail paren_tail keyword_value word_value integer_value text ivar_value gvar_value top_constant word_list embedded interpolated parenthesized array label_key pair_in_braces hash_value name_call constant_value super_value yield_value prim dot_part scope_part bracket post not_level power_level minus_level product_level sum_level shift_level comparison_level equal_level equality_level and_level or_level range_level ternary argument command_arguments command_part splat item more_items splat_list other_items one_value nested_value right_side jump_value jump command_level block_argument label_pair arrow_pair arguments_from arguments cargs more_pairs method_name not_expression expression alias_statement undef_statement simple modifier statement line statement_list
+g_prim d r = ((tt, (tt, (tt, (tt, tt)))), (tt, (tt, (tt, (tt, (tt, (tt, (tt, (tt, (tt, ((tt, inr refl), (tt, (tt, (tt, (tt, (tt, (tt, (tt, (tt, (tt, (tt, (tt, ((tt, inr refl), inr refl)))))))))))))))))))))))
 
 g_power : (d r : Bool) → Guarded table (power_level d r)
-unfolding table newlines behind_newlines paren closed brace_block do_block block tail paren_tail keyword_value word_value integer_value text ivar_value gvar_value top_constant word_list embedded interpolated parenthesized array label_key pair_in_braces hash_value name_call constant_value super_value yield_value prim dot_part scope_part bracket post not_level power_level minus_level product_level sum_level shift_level comparison_level equal_level equality_level and_level or_level range_level ternary argument command_arguments command_part splat item more_items splat_list other_items one_value nested_value right_side jump_value jump command_level block_argument label_pair arrow_pair arguments_from arguments cargs more_pairs method_name not_expression expression alias_statement undef_statement simple modifier statement line statement_list
+unfolding table then_sign else_part branch otherwise if_value unless_value loop_body while_value until_value when_clause case_value class_header rescue_clause body_else body_ensure handlers begin_value module_body class_value module_value keyword_form newlines behind_newlines paren closed brace_block do_block block tail paren_tail keyword_value word_value integer_value text ivar_value gvar_value top_constant word_list embedded interpolated parenthesized array label_key pair_in_braces hash_value name_call constant_value super_value yield_value prim dot_part scope_part bracket post not_level power_level minus_level product_level sum_level shift_level comparison_level equal_level equality_level and_level or_level range_level ternary argument command_arguments command_part splat item more_items splat_list other_items one_value nested_value right_side jump_value jump command_level block_argument label_pair arrow_pair arguments_from arguments cargs more_pairs method_name not_expression expression alias_statement undef_statement simple modifier statement line statement_list
 g_power d r = (tt, g_prim d r)
 
 g_minus : (d r : Bool) → Guarded table (minus_level d r)
-unfolding table newlines behind_newlines paren closed brace_block do_block block tail paren_tail keyword_value word_value integer_value text ivar_value gvar_value top_constant word_list embedded interpolated parenthesized array label_key pair_in_braces hash_value name_call constant_value super_value yield_value prim dot_part scope_part bracket post not_level power_level minus_level product_level sum_level shift_level comparison_level equal_level equality_level and_level or_level range_level ternary argument command_arguments command_part splat item more_items splat_list other_items one_value nested_value right_side jump_value jump command_level block_argument label_pair arrow_pair arguments_from arguments cargs more_pairs method_name not_expression expression alias_statement undef_statement simple modifier statement line statement_list
+unfolding table then_sign else_part branch otherwise if_value unless_value loop_body while_value until_value when_clause case_value class_header rescue_clause body_else body_ensure handlers begin_value module_body class_value module_value keyword_form newlines behind_newlines paren closed brace_block do_block block tail paren_tail keyword_value word_value integer_value text ivar_value gvar_value top_constant word_list embedded interpolated parenthesized array label_key pair_in_braces hash_value name_call constant_value super_value yield_value prim dot_part scope_part bracket post not_level power_level minus_level product_level sum_level shift_level comparison_level equal_level equality_level and_level or_level range_level ternary argument command_arguments command_part splat item more_items splat_list other_items one_value nested_value right_side jump_value jump command_level block_argument label_pair arrow_pair arguments_from arguments cargs more_pairs method_name not_expression expression alias_statement undef_statement simple modifier statement line statement_list
 g_minus d r = (tt, g_power d r)
 
 guards : (n : Production) (d r : Bool) → Guarded table (rule_of n d r)
-unfolding table newlines behind_newlines paren closed brace_block do_block block tail paren_tail keyword_value word_value integer_value text ivar_value gvar_value top_constant word_list embedded interpolated parenthesized array label_key pair_in_braces hash_value name_call constant_value super_value yield_value prim dot_part scope_part bracket post not_level power_level minus_level product_level sum_level shift_level comparison_level equal_level equality_level and_level or_level range_level ternary argument command_arguments command_part splat item more_items splat_list other_items one_value nested_value right_side jump_value jump command_level block_argument label_pair arrow_pair arguments_from arguments cargs more_pairs method_name not_expression expression alias_statement undef_statement simple modifier statement line statement_list
+unfolding table then_sign else_part branch otherwise if_value unless_value loop_body while_value until_value when_clause case_value class_header rescue_clause body_else body_ensure handlers begin_value module_body class_value module_value keyword_form newlines behind_newlines paren closed brace_block do_block block tail paren_tail keyword_value word_value integer_value text ivar_value gvar_value top_constant word_list embedded interpolated parenthesized array label_key pair_in_braces hash_value name_call constant_value super_value yield_value prim dot_part scope_part bracket post not_level power_level minus_level product_level sum_level shift_level comparison_level equal_level equality_level and_level or_level range_level ternary argument command_arguments command_part splat item more_items splat_list other_items one_value nested_value right_side jump_value jump command_level block_argument label_pair arrow_pair arguments_from arguments cargs more_pairs method_name not_expression expression alias_statement undef_statement simple modifier statement line statement_list
 guards p.Statements d r = tt
 guards p.Statement d r = (tt, (tt, (tt, (tt, g_minus true r))))
 guards p.Expression d r = (tt, (tt, g_minus d r))
@@ -81,6 +83,7 @@ guards p.SumOperand d r = g_minus d r
 guards p.ProductOperand d r = g_minus d r
 guards p.PowerOperand d r = g_power d r
 guards p.NotOperand d r = (tt, g_prim d r)
+guards p.Otherwise d r = (tt, ((tt, inr refl), tt))
 guards (p.CommandArguments true) d r = (tt, (tt, (tt, g_minus d r)))
 guards (p.CommandArguments false) d r = (tt, (tt, g_minus d r))
 guards (p.Arguments true) d r = (tt, (tt, (tt, g_minus d r)))
@@ -89,15 +92,15 @@ guards (p.MorePairs true) d r = (tt, (tt, tt))
 guards (p.MorePairs false) d r = (tt, tt)
 
 all_begin_statement : (r : Bool) → Included table (first table (value_of (statement r))) (begins p.Statement)
-unfolding table newlines behind_newlines paren closed brace_block do_block block tail paren_tail keyword_value word_value integer_value text ivar_value gvar_value top_constant word_list embedded interpolated parenthesized array label_key pair_in_braces hash_value name_call constant_value super_value yield_value prim dot_part scope_part bracket post not_level power_level minus_level product_level sum_level shift_level comparison_level equal_level equality_level and_level or_level range_level ternary argument command_arguments command_part splat item more_items splat_list other_items one_value nested_value right_side jump_value jump command_level block_argument label_pair arrow_pair arguments_from arguments cargs more_pairs method_name not_expression expression alias_statement undef_statement simple modifier statement line statement_list
+unfolding table then_sign else_part branch otherwise if_value unless_value loop_body while_value until_value when_clause case_value class_header rescue_clause body_else body_ensure handlers begin_value module_body class_value module_value keyword_form newlines behind_newlines paren closed brace_block do_block block tail paren_tail keyword_value word_value integer_value text ivar_value gvar_value top_constant word_list embedded interpolated parenthesized array label_key pair_in_braces hash_value name_call constant_value super_value yield_value prim dot_part scope_part bracket post not_level power_level minus_level product_level sum_level shift_level comparison_level equal_level equality_level and_level or_level range_level ternary argument command_arguments command_part splat item more_items splat_list other_items one_value nested_value right_side jump_value jump command_level block_argument label_pair arrow_pair arguments_from arguments cargs more_pairs method_name not_expression expression alias_statement undef_statement simple modifier statement line statement_list
 all_begin_statement r = refl
 
 all_begin_statements : (r : Bool) → Included table (first table (statement_list r)) (begins p.Statements)
-unfolding table newlines behind_newlines paren closed brace_block do_block block tail paren_tail keyword_value word_value integer_value text ivar_value gvar_value top_constant word_list embedded interpolated parenthesized array label_key pair_in_braces hash_value name_call constant_value super_value yield_value prim dot_part scope_part bracket post not_level power_level minus_level product_level sum_level shift_level comparison_level equal_level equality_level and_level or_level range_level ternary argument command_arguments command_part splat item more_items splat_list other_items one_value nested_value right_side jump_value jump command_level block_argument label_pair arrow_pair arguments_from arguments cargs more_pairs method_name not_expression expression alias_statement undef_statement simple modifier statement line statement_list
+unfolding table then_sign else_part branch otherwise if_value unless_value loop_body while_value until_value when_clause case_value class_header rescue_clause body_else body_ensure handlers begin_value module_body class_value module_value keyword_form newlines behind_newlines paren closed brace_block do_block block tail paren_tail keyword_value word_value integer_value text ivar_value gvar_value top_constant word_list embedded interpolated parenthesized array label_key pair_in_braces hash_value name_call constant_value super_value yield_value prim dot_part scope_part bracket post not_level power_level minus_level product_level sum_level shift_level comparison_level equal_level equality_level and_level or_level range_level ternary argument command_arguments command_part splat item more_items splat_list other_items one_value nested_value right_side jump_value jump command_level block_argument label_pair arrow_pair arguments_from arguments cargs more_pairs method_name not_expression expression alias_statement undef_statement simple modifier statement line statement_list
 all_begin_statements r = refl
 
 all_begin : (n : Production) (d r : Bool) → Included table (first table (rule_of n d r)) (begins n)
-unfolding table newlines behind_newlines paren closed brace_block do_block block tail paren_tail keyword_value word_value integer_value text ivar_value gvar_value top_constant word_list embedded interpolated parenthesized array label_key pair_in_braces hash_value name_call constant_value super_value yield_value prim dot_part scope_part bracket post not_level power_level minus_level product_level sum_level shift_level comparison_level equal_level equality_level and_level or_level range_level ternary argument command_arguments command_part splat item more_items splat_list other_items one_value nested_value right_side jump_value jump command_level block_argument label_pair arrow_pair arguments_from arguments cargs more_pairs method_name not_expression expression alias_statement undef_statement simple modifier statement line statement_list
+unfolding table then_sign else_part branch otherwise if_value unless_value loop_body while_value until_value when_clause case_value class_header rescue_clause body_else body_ensure handlers begin_value module_body class_value module_value keyword_form newlines behind_newlines paren closed brace_block do_block block tail paren_tail keyword_value word_value integer_value text ivar_value gvar_value top_constant word_list embedded interpolated parenthesized array label_key pair_in_braces hash_value name_call constant_value super_value yield_value prim dot_part scope_part bracket post not_level power_level minus_level product_level sum_level shift_level comparison_level equal_level equality_level and_level or_level range_level ternary argument command_arguments command_part splat item more_items splat_list other_items one_value nested_value right_side jump_value jump command_level block_argument label_pair arrow_pair arguments_from arguments cargs more_pairs method_name not_expression expression alias_statement undef_statement simple modifier statement line statement_list
 all_begin p.Statements d r = all_begin_statements r
 all_begin p.Statement d r = all_begin_statement r
 all_begin p.Expression true r = refl
@@ -134,6 +137,8 @@ all_begin p.PowerOperand true r = refl
 all_begin p.PowerOperand false r = refl
 all_begin p.NotOperand true r = refl
 all_begin p.NotOperand false r = refl
+all_begin p.Otherwise true r = refl
+all_begin p.Otherwise false r = refl
 all_begin (p.CommandArguments true) true r = refl
 all_begin (p.CommandArguments false) true r = refl
 all_begin (p.CommandArguments true) false r = refl
@@ -148,15 +153,15 @@ all_begin (p.MorePairs true) false r = refl
 all_begin (p.MorePairs false) false r = refl
 
 all_continue_statement : (r : Bool) → Included table (continues table (value_of (statement r))) (behind p.Statement true)
-unfolding table newlines behind_newlines paren closed brace_block do_block block tail paren_tail keyword_value word_value integer_value text ivar_value gvar_value top_constant word_list embedded interpolated parenthesized array label_key pair_in_braces hash_value name_call constant_value super_value yield_value prim dot_part scope_part bracket post not_level power_level minus_level product_level sum_level shift_level comparison_level equal_level equality_level and_level or_level range_level ternary argument command_arguments command_part splat item more_items splat_list other_items one_value nested_value right_side jump_value jump command_level block_argument label_pair arrow_pair arguments_from arguments cargs more_pairs method_name not_expression expression alias_statement undef_statement simple modifier statement line statement_list
+unfolding table then_sign else_part branch otherwise if_value unless_value loop_body while_value until_value when_clause case_value class_header rescue_clause body_else body_ensure handlers begin_value module_body class_value module_value keyword_form newlines behind_newlines paren closed brace_block do_block block tail paren_tail keyword_value word_value integer_value text ivar_value gvar_value top_constant word_list embedded interpolated parenthesized array label_key pair_in_braces hash_value name_call constant_value super_value yield_value prim dot_part scope_part bracket post not_level power_level minus_level product_level sum_level shift_level comparison_level equal_level equality_level and_level or_level range_level ternary argument command_arguments command_part splat item more_items splat_list other_items one_value nested_value right_side jump_value jump command_level block_argument label_pair arrow_pair arguments_from arguments cargs more_pairs method_name not_expression expression alias_statement undef_statement simple modifier statement line statement_list
 all_continue_statement r = refl
 
 all_continue_statements : (r : Bool) → Included table (continues table (statement_list r)) (behind p.Statements true)
-unfolding table newlines behind_newlines paren closed brace_block do_block block tail paren_tail keyword_value word_value integer_value text ivar_value gvar_value top_constant word_list embedded interpolated parenthesized array label_key pair_in_braces hash_value name_call constant_value super_value yield_value prim dot_part scope_part bracket post not_level power_level minus_level product_level sum_level shift_level comparison_level equal_level equality_level and_level or_level range_level ternary argument command_arguments command_part splat item more_items splat_list other_items one_value nested_value right_side jump_value jump command_level block_argument label_pair arrow_pair arguments_from arguments cargs more_pairs method_name not_expression expression alias_statement undef_statement simple modifier statement line statement_list
+unfolding table then_sign else_part branch otherwise if_value unless_value loop_body while_value until_value when_clause case_value class_header rescue_clause body_else body_ensure handlers begin_value module_body class_value module_value keyword_form newlines behind_newlines paren closed brace_block do_block block tail paren_tail keyword_value word_value integer_value text ivar_value gvar_value top_constant word_list embedded interpolated parenthesized array label_key pair_in_braces hash_value name_call constant_value super_value yield_value prim dot_part scope_part bracket post not_level power_level minus_level product_level sum_level shift_level comparison_level equal_level equality_level and_level or_level range_level ternary argument command_arguments command_part splat item more_items splat_list other_items one_value nested_value right_side jump_value jump command_level block_argument label_pair arrow_pair arguments_from arguments cargs more_pairs method_name not_expression expression alias_statement undef_statement simple modifier statement line statement_list
 all_continue_statements r = refl
 
 all_continue : (n : Production) (d r : Bool) → Included table (continues table (rule_of n d r)) (behind n d)
-unfolding table newlines behind_newlines paren closed brace_block do_block block tail paren_tail keyword_value word_value integer_value text ivar_value gvar_value top_constant word_list embedded interpolated parenthesized array label_key pair_in_braces hash_value name_call constant_value super_value yield_value prim dot_part scope_part bracket post not_level power_level minus_level product_level sum_level shift_level comparison_level equal_level equality_level and_level or_level range_level ternary argument command_arguments command_part splat item more_items splat_list other_items one_value nested_value right_side jump_value jump command_level block_argument label_pair arrow_pair arguments_from arguments cargs more_pairs method_name not_expression expression alias_statement undef_statement simple modifier statement line statement_list
+unfolding table then_sign else_part branch otherwise if_value unless_value loop_body while_value until_value when_clause case_value class_header rescue_clause body_else body_ensure handlers begin_value module_body class_value module_value keyword_form newlines behind_newlines paren closed brace_block do_block block tail paren_tail keyword_value word_value integer_value text ivar_value gvar_value top_constant word_list embedded interpolated parenthesized array label_key pair_in_braces hash_value name_call constant_value super_value yield_value prim dot_part scope_part bracket post not_level power_level minus_level product_level sum_level shift_level comparison_level equal_level equality_level and_level or_level range_level ternary argument command_arguments command_part splat item more_items splat_list other_items one_value nested_value right_side jump_value jump command_level block_argument label_pair arrow_pair arguments_from arguments cargs more_pairs method_name not_expression expression alias_statement undef_statement simple modifier statement line statement_list
 all_continue p.Statements d r = all_continue_statements r
 all_continue p.Statement d r = all_continue_statement r
 all_continue p.Expression true r = refl
@@ -193,6 +198,8 @@ all_continue p.PowerOperand true r = refl
 all_continue p.PowerOperand false r = refl
 all_continue p.NotOperand true r = refl
 all_continue p.NotOperand false r = refl
+all_continue p.Otherwise true r = refl
+all_continue p.Otherwise false r = refl
 all_continue (p.CommandArguments true) true r = refl
 all_continue (p.CommandArguments false) true r = refl
 all_continue (p.CommandArguments true) false r = refl
@@ -219,7 +226,7 @@ with_value n t c e h = and_both c _ e (by (nat_eq n act.commanded) (op mark.Comm
     by false false h = refl
 
 value_by : (n : Production) (d r : Bool) (x : El Seen Node (sort_of n)) (t : ℕ) → t < size → GoesOn table (rule_of n d r) x t → goes_on_of n d x t ≡ true
-unfolding table newlines behind_newlines paren closed brace_block do_block block tail paren_tail keyword_value word_value integer_value text ivar_value gvar_value top_constant word_list embedded interpolated parenthesized array label_key pair_in_braces hash_value name_call constant_value super_value yield_value prim dot_part scope_part bracket post not_level power_level minus_level product_level sum_level shift_level comparison_level equal_level equality_level and_level or_level range_level ternary argument command_arguments command_part splat item more_items splat_list other_items one_value nested_value right_side jump_value jump command_level block_argument label_pair arrow_pair arguments_from arguments cargs more_pairs method_name not_expression expression alias_statement undef_statement simple modifier statement line statement_list Quiet
+unfolding table then_sign else_part branch otherwise if_value unless_value loop_body while_value until_value when_clause case_value class_header rescue_clause body_else body_ensure handlers begin_value module_body class_value module_value keyword_form newlines behind_newlines paren closed brace_block do_block block tail paren_tail keyword_value word_value integer_value text ivar_value gvar_value top_constant word_list embedded interpolated parenthesized array label_key pair_in_braces hash_value name_call constant_value super_value yield_value prim dot_part scope_part bracket post not_level power_level minus_level product_level sum_level shift_level comparison_level equal_level equality_level and_level or_level range_level ternary argument command_arguments command_part splat item more_items splat_list other_items one_value nested_value right_side jump_value jump command_level block_argument label_pair arrow_pair arguments_from arguments cargs more_pairs method_name not_expression expression alias_statement undef_statement simple modifier statement line statement_list Quiet
 value_by p.OneValue d r x t less g = with_value x.1 t (behind p.OneValue d t) (class_of p.OneValue d r x t less g) (λ k j. quiet_comma d r x k t less g j)
 value_by p.NestedValue d r x t less (inl (n, e, g)) = with_value x.1 t (behind p.NestedValue d t) (class_of p.NestedValue d r x t less (inl (n, e, g))) (λ k j. true≢false (sym (subst (λ z. not (nat_eq z.1 act.commanded) ≡ true) e k)))
 value_by p.NestedValue d r x t less (inr (inl g)) = with_value x.1 t (behind p.NestedValue d t) (class_of p.NestedValue d r x t less (inr (inl g))) (λ k j. quiet_comma d r x k t less g j)
@@ -241,12 +248,13 @@ value_by p.SumOperand d r x t less g = class_of p.SumOperand d r x t less g
 value_by p.ProductOperand d r x t less g = class_of p.ProductOperand d r x t less g
 value_by p.PowerOperand d r x t less g = class_of p.PowerOperand d r x t less g
 value_by p.NotOperand d r x t less g = class_of p.NotOperand d r x t less g
+value_by p.Otherwise d r x t less g = class_of p.Otherwise d r x t less g
 value_by (p.CommandArguments blocks) d r x t less g = class_of (p.CommandArguments blocks) d r x t less g
 value_by (p.Arguments blocks) d r x t less g = class_of (p.Arguments blocks) d r x t less g
 value_by (p.MorePairs blocks) d r x t less g = class_of (p.MorePairs blocks) d r x t less g
 
 empties : (n : Production) (d r : Bool) → nullable table (rule_of n d r) ≡ true → is_nullable n ≡ true
-unfolding table newlines behind_newlines paren closed brace_block do_block block tail paren_tail keyword_value word_value integer_value text ivar_value gvar_value top_constant word_list embedded interpolated parenthesized array label_key pair_in_braces hash_value name_call constant_value super_value yield_value prim dot_part scope_part bracket post not_level power_level minus_level product_level sum_level shift_level comparison_level equal_level equality_level and_level or_level range_level ternary argument command_arguments command_part splat item more_items splat_list other_items one_value nested_value right_side jump_value jump command_level block_argument label_pair arrow_pair arguments_from arguments cargs more_pairs method_name not_expression expression alias_statement undef_statement simple modifier statement line statement_list
+unfolding table then_sign else_part branch otherwise if_value unless_value loop_body while_value until_value when_clause case_value class_header rescue_clause body_else body_ensure handlers begin_value module_body class_value module_value keyword_form newlines behind_newlines paren closed brace_block do_block block tail paren_tail keyword_value word_value integer_value text ivar_value gvar_value top_constant word_list embedded interpolated parenthesized array label_key pair_in_braces hash_value name_call constant_value super_value yield_value prim dot_part scope_part bracket post not_level power_level minus_level product_level sum_level shift_level comparison_level equal_level equality_level and_level or_level range_level ternary argument command_arguments command_part splat item more_items splat_list other_items one_value nested_value right_side jump_value jump command_level block_argument label_pair arrow_pair arguments_from arguments cargs more_pairs method_name not_expression expression alias_statement undef_statement simple modifier statement line statement_list
 empties p.Statements d r h = refl
 empties p.Statement d r h = h
 empties p.Expression d r h = h
@@ -266,6 +274,7 @@ empties p.SumOperand d r h = h
 empties p.ProductOperand d r h = h
 empties p.PowerOperand d r h = h
 empties p.NotOperand d r h = h
+empties p.Otherwise d r h = refl
 empties (p.CommandArguments true) d r h = h
 empties (p.CommandArguments false) d r h = h
 empties (p.Arguments true) d r h = h

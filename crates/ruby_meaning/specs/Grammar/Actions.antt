@@ -20,6 +20,7 @@ use Rattle.ruby_meaning.specs.declared.tree.JumpKind.TheVariants as jump
 use Rattle.ruby_meaning.specs.declared.tree.Operator.{Operator}
 use Rattle.ruby_meaning.specs.declared.tree.Operator.TheVariants as operator
 use Rattle.ruby_meaning.specs.declared.tree.ModuleForm.{ModuleForm}
+use Rattle.ruby_meaning.specs.declared.tree.ModuleForm.TheVariants as form
 use Rattle.ruby_meaning.specs.declared.tree.Node.{Node}
 use Rattle.ruby_meaning.specs.declared.tree.Params.{Params, roll-Params}
 use Rattle.ruby_meaning.specs.declared.tree.Rest.TheVariants as rest
@@ -673,3 +674,54 @@ statements (Some n ∷ rest) = n ∷ statements rest
 abbrev pub sequence_of : List Node → Node × ℕ
 sequence_of [] = (nothing, 1)
 sequence_of (n ∷ ns) = (make (kind.Seq (n ∷ ns)) (to_end n.span (last_span n.span ns)) (n.span).from, 0)
+
+-- ---- forms with an "end"
+
+abbrev pub last_then : Seen × Option Seen → Seen
+last_then (t, None) = t
+last_then (t, Some then_) = then_
+
+-- where a part ends that stands behind a token, which may have no statement
+abbrev pub last_of : Seen → Node × ℕ → Span
+last_of t (n, zero) = n.span
+last_of t (n, suc k) = span_of t
+
+abbrev pub last_or : Span → Node × ℕ → Span
+last_or s (n, zero) = n.span
+last_or s (n, suc k) = s
+
+-- from an `elsif` to the end of its last part
+abbrev pub elsif_span : Seen → Node × (Seen × (Node × ℕ)) → Node × ℕ → Span
+elsif_span t branch last = to_end (span_of t) (last_or (last_of (branch.1.0) (branch.1.1)) last)
+
+-- a class with its name and its superclass, or the singleton class of a node
+abbrev pub form_of : Option Seen × Option Node → ModuleForm
+form_of (Some t, superclass) = form.Class superclass
+form_of (None, Some n) = form.Singleton n
+form_of (None, None) = form.Module
+
+abbrev pub form_name : Option Seen × Option Node → List ℕ
+form_name (Some t, superclass) = units t
+form_name (None, n) = []
+
+-- the place of the name, or of the `class`
+abbrev pub form_place : Seen → Option Seen × Option Node → Pos
+form_place t (Some name, superclass) = start name
+form_place t (None, n) = start t
+
+abbrev pub name_if : Option Seen → Option (List ℕ)
+name_if None = None
+name_if (Some t) = Some (units t)
+
+-- the place of the name, or of the `rescue`
+abbrev pub rescue_place : Seen → Option Seen → Pos
+rescue_place t None = start t
+rescue_place t (Some name) = start name
+
+-- a name without ? or !
+abbrev pub is_variable_name : Seen → Bool
+is_variable_name t = is_plain_name t.token.kind
+
+-- a body with clauses; the form that holds it sets its span
+abbrev pub with_handlers : Seen × (Node × ℕ) → List Node × (Option Node × Option Node) → Seen × (Node × ℕ)
+with_handlers l x = (l.0, (make (kind.Begin (filled (span_of l.0) l.1) x.0 (x.1.0) (x.1.1)) (span_of l.0) (start l.0), 0))

@@ -184,12 +184,16 @@ module _ (takes_do : Bool) (in_rescue : Bool) where
   unfoldable pub right_side : R (marked tree)
   right_side = choice (plain splat_list) (suffix {r = list tree} 1 one_value (λ l. not (nat_eq l.1 commanded)) other_items (λ l xs. (array_of l.0 xs, commanded)))
 
+  -- behind a jump these keywords are modifiers
+  abbrev pub begins_no_modifier : ℕ → Bool
+  begins_no_modifier n = not ((key word.If or key word.Unless or key word.While or key word.Until) n)
+
   -- ("return"|"break"|"next") [list]
   unfoldable pub jump_value : R (marked tree)
   jump_value = choice (plain splat_list) (suffix {r = list tree} 1 (plain (named (part p.Argument takes_do in_rescue))) (λ l. true) other_items (λ l xs. (array_of l.0 xs, other)))
 
   unfoldable pub jump : R (marked tree)
-  jump = node {s = pair leaf (marked tree)} (λ x. (jump_node x.0 x.1, other)) (sequence (token (key word.Return or key word.Break or key word.Next)) (choice jump_value (absent (nothing, 1))))
+  jump = node {s = pair leaf (marked tree)} (λ x. (jump_node x.0 x.1, other)) (sequence (token (key word.Return or key word.Break or key word.Next)) (choice (starting begins_no_modifier jump_value) (absent (nothing, 1))))
 
   -- cmd : jump | command | target "=" rhs | target OP"=" rhs1 | arg
   unfoldable pub command_level : R (marked tree)

@@ -18,6 +18,7 @@ args_sort = pair (list tree) (pair pairs_sort (optional tree))
 abbrev pub sort_of : Production → Sort
 sort_of p.Statements = marked tree
 sort_of p.OneValue = marked tree
+sort_of p.Otherwise = marked tree
 sort_of p.NestedValue = marked tree
 sort_of (p.Arguments blocks) = args_sort
 sort_of (p.CommandArguments blocks) = args_sort

@@ -14,6 +14,7 @@ use Rattle.ruby_meaning.specs.declared.tree.Literal.TheVariants as literal
 use Rattle.ruby_meaning.specs.Grammar.Classes.{a, op, marked_op, key}
 use Rattle.ruby_meaning.specs.Grammar.Names.{args_sort, R, part}
 use Rattle.ruby_meaning.specs.Grammar.Actions.{make, start, span_of, tokens, filled, units, integer, other, variable, items_of, named_node, constant_node, super_node, yield_node, by_selector, constant_part, index_part, call_part, with_part, replaced}
+use Rattle.ruby_meaning.specs.Grammar.Definitions.{keyword_form}
 use Rattle.ruby_meaning.specs.Grammar.Calls.{behind_newlines, closed, paren, tail_sort, tail, paren_tail}
 
 -- ---- literals and variables
@@ -109,7 +110,7 @@ module _ (in_rescue : Bool) where
   unfoldable pub prim : Bool → R (marked tree)
   prim takes_do = choice word_value (choice integer_value (choice (view {s = tree} (λ n. (n, other)) text) (choice interpolated (choice word_list
       (choice ivar_value (choice gvar_value (choice top_constant (choice (name_call takes_do) (choice (constant_value takes_do)
-      (choice parenthesized (choice array (choice hash_value (choice yield_value (super_value takes_do))))))))))))))
+      (choice parenthesized (choice array (choice hash_value (choice yield_value (choice (super_value takes_do) (keyword_form in_rescue)))))))))))))))
 
   -- ---- what stands behind a value
 

@@ -14,6 +14,7 @@ use Rattle.ruby_meaning.specs.Grammar.Seen.{Seen}
 use Rattle.ruby_meaning.specs.Grammar.Classes.{size, code_of, a, op, marked_op, key}
 use Rattle.ruby_meaning.specs.Grammar.Names.{sort_of, sorts, R}
 use Rattle.ruby_meaning.specs.Grammar.Actions.{commanded}
+use Rattle.ruby_meaning.specs.Grammar.Definitions.{otherwise}
 use Rattle.ruby_meaning.specs.Grammar.Expressions.{value_of, updates, begins_marked, begins_plain, not_level, power_level, minus_level, product_level, sum_level, shift_level, comparison_level, equality_level, and_level, or_level, ternary, argument, one_value, nested_value, right_side, cargs, arguments, more_pairs}
 use Rattle.ruby_meaning.specs.Grammar.Statements.{separators, not_expression, expression, statement, statement_list}
 
@@ -37,19 +38,24 @@ rule_of p.SumOperand d r = value_of (product_level d r)
 rule_of p.ProductOperand d r = value_of (minus_level d r)
 rule_of p.PowerOperand d r = value_of (power_level d r)
 rule_of p.NotOperand d r = value_of (not_level d r)
+rule_of p.Otherwise d r = otherwise r
 rule_of (p.CommandArguments blocks) d r = cargs d r blocks
 rule_of (p.Arguments blocks) d r = arguments d r blocks
 rule_of (p.MorePairs blocks) d r = more_pairs d r blocks
 
 -- ---- what begins a production
 
-abbrev pub begins_value : ℕ → Bool
-begins_value = a sign.Name or a sign.Const or a sign.Ivar or a sign.Gvar or a sign.Int or a sign.Text or a sign.TextBegin
+abbrev pub begins_simple_value : ℕ → Bool
+begins_simple_value = a sign.Name or a sign.Const or a sign.Ivar or a sign.Gvar or a sign.Int or a sign.Text or a sign.TextBegin
     or key word.Nil or key word.True or key word.False or key word.Self_ or key word.Retry or key word.Yield or key word.Super
     or op mark.WordsRound or op mark.WordsSquare or op mark.SymbolsRound or op mark.SymbolsSquare
     or marked_op mark.WordsRound or marked_op mark.WordsSquare or marked_op mark.SymbolsRound or marked_op mark.SymbolsSquare
     or op mark.ColonColon or marked_op mark.ColonColon or op mark.ParenOpen or marked_op mark.ParenOpen
     or op mark.BracketOpen or marked_op mark.BracketOpen or op mark.BraceOpen or op mark.Bang or op mark.Minus or marked_op mark.Minus
+    or key word.Case or key word.Class or key word.Module or key word.Begin
+
+abbrev pub begins_value : ℕ → Bool
+begins_value = begins_simple_value or key word.If or key word.Unless or key word.While or key word.Until
 
 abbrev pub begins_splat : ℕ → Bool
 begins_splat = op mark.Star or marked_op mark.Star
@@ -70,6 +76,7 @@ begins p.Expression = begins_expression
 begins p.NotExpression = begins_expression
 begins p.RightSide = begins_value or begins_splat
 begins p.NestedValue = begins_value or begins_splat
+begins p.Otherwise = key word.Elsif or key word.Else
 begins (p.CommandArguments blocks) = begins_argument
 begins (p.Arguments blocks) = begins_argument
 begins (p.MorePairs blocks) = begins_argument
@@ -119,7 +126,7 @@ behind_command d = behind_argument d or begins_command or op mark.Comma or op ma
 
 -- behind a jump without a value a value may still begin
 abbrev pub behind_jump : Bool → ℕ → Bool
-behind_jump d = behind_command d or begins_value or begins_splat
+behind_jump d = behind_command d or begins_simple_value or begins_splat
 
 abbrev pub behind_expression : Bool → ℕ → Bool
 behind_expression d = behind_jump d or key word.And or key word.Or
@@ -140,6 +147,7 @@ continues p.NotExpression d = behind_jump d
 continues p.RightSide d = behind_command d
 continues p.NestedValue d = behind_command d
 continues p.OneValue d = behind_command d
+continues p.Otherwise d = behind_statement or begins_statement or separators or key word.Elsif or key word.Else or key word.Then
 continues p.Argument d = behind_argument d
 continues p.Ternary d = behind_ternary d
 continues p.RangeOperand d = behind_or d
@@ -167,6 +175,7 @@ goes_on_of k d x t = continues k d t
 
 abbrev pub is_nullable : Production → Bool
 is_nullable p.Statements = true
+is_nullable p.Otherwise = true
 is_nullable _ = false
 
 abbrev pub production : (k : Part) → R (sorts k)
