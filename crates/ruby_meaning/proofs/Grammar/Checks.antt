@@ -113,9 +113,6 @@ modified_deep l x = by x.1
 until_deep : (x : Seen × Node) → max 0 (depth_of ((act.until_condition x).1)) ≡ suc (max 0 (depth_of x.1))
 until_deep x = omega (arith, d.depth_not x.1 (act.from_token x.0 x.1) (act.start x.0))
 
-until_level : (x : Seen × Node) → 1 ≤ max 0 (depth_of ((act.until_condition x).1))
-until_level x = omega (arith, until_deep x)
-
 form_deep : (x : Option Seen × Option Node) → form_depth (act.form_of x) ≡ max (deep_if (λ t. 0) x.0) (deep_if depth_of x.1)
 form_deep (Some t, o) = omega (arith, d.depth_class o)
 form_deep (None, Some n) = omega (arith, d.depth_singleton n)
@@ -276,7 +273,7 @@ c_while r = (λ x. omega (arith, d.depth_while (x.1.0) (act.filled (act.tokens x
 
 c_until : (r : Bool) → Checks table (until_value r)
 unfolding table then_sign else_part branch otherwise if_value unless_value loop_body while_value until_value when_clause case_value class_header rescue_clause body_else body_ensure handlers begin_value module_body class_value module_value keyword_form newlines behind_newlines paren closed brace_block do_block block tail paren_tail keyword_value word_value integer_value text ivar_value gvar_value top_constant word_list embedded interpolated parenthesized array label_key pair_in_braces hash_value name_call constant_value super_value yield_value prim dot_part scope_part bracket post not_level power_level minus_level product_level sum_level shift_level comparison_level equal_level equality_level and_level or_level range_level ternary argument command_arguments command_part splat item more_items splat_list other_items one_value nested_value right_side jump_value jump command_level block_argument label_pair arrow_pair arguments_from arguments cargs more_pairs method_name not_expression expression alias_statement undef_statement simple modifier statement line statement_list
-c_until r = ((λ x. omega (arith, d.depth_while (act.replaced (act.tokens x.0 (x.1.1.1)) (act.start x.0) (x.1.0)) (act.filled (act.tokens x.0 (x.1.1.1)) (x.1.1.0)) false (act.tokens x.0 (x.1.1.1)) (act.start x.0), filled_deep (act.tokens x.0 (x.1.1.1)) (x.1.1.0), replaced_deep (act.tokens x.0 (x.1.1.1)) (act.start x.0) (x.1.0), some_level (x.1.0))), (λ x. omega (arith, d.depth_while (act.replaced (act.tokens x.0 (x.1.1.1)) (act.start x.0) (x.1.0)) (act.filled (act.tokens x.0 (x.1.1.1)) (x.1.1.0)) false (act.tokens x.0 (x.1.1.1)) (act.start x.0), filled_deep (act.tokens x.0 (x.1.1.1)) (x.1.1.0), replaced_deep (act.tokens x.0 (x.1.1.1)) (act.start x.0) (x.1.0)), (refl, tt, (refl, (λ n. d.depth_not n n.span n.mark, tt), c_loop r))))
+c_until r = (inr (inl (λ x. omega arith)), (λ x. omega (arith, d.depth_while (act.replaced (act.tokens x.0 (x.1.1.1)) (act.start x.0) (x.1.0)) (act.filled (act.tokens x.0 (x.1.1.1)) (x.1.1.0)) false (act.tokens x.0 (x.1.1.1)) (act.start x.0), filled_deep (act.tokens x.0 (x.1.1.1)) (x.1.1.0), replaced_deep (act.tokens x.0 (x.1.1.1)) (act.start x.0) (x.1.0)), (refl, tt, (refl, (λ n. d.depth_not n n.span n.mark, tt), c_loop r))))
 
 c_when : (r : Bool) → Checks table (when_clause r)
 unfolding table then_sign else_part branch otherwise if_value unless_value loop_body while_value until_value when_clause case_value class_header rescue_clause body_else body_ensure handlers begin_value module_body class_value module_value keyword_form newlines behind_newlines paren closed brace_block do_block block tail paren_tail keyword_value word_value integer_value text ivar_value gvar_value top_constant word_list embedded interpolated parenthesized array label_key pair_in_braces hash_value name_call constant_value super_value yield_value prim dot_part scope_part bracket post not_level power_level minus_level product_level sum_level shift_level comparison_level equal_level equality_level and_level or_level range_level ternary argument command_arguments command_part splat item more_items splat_list other_items one_value nested_value right_side jump_value jump command_level block_argument label_pair arrow_pair arguments_from arguments cargs more_pairs method_name not_expression expression alias_statement undef_statement simple modifier statement line statement_list
@@ -511,7 +508,7 @@ c_assignment true r value updated cv cu = (
     refl,
     λ l x k. omega (arith, variable_deep l x k),
     (inl refl, refl, refl, λ l x k. omega (arith, assigned_deep l x k), c_ternary true r, (λ x. refl, behind_checks table value cv (op mark.Assign))),
-    ((λ x. omega arith), (λ x. refl, (λ x. refl, (no_classes_of updated, tt, cu)))),
+    (inl (λ x. omega arith), (λ x. refl, (λ x. refl, (no_classes_of updated, tt, cu)))),
   ),
   (λ x. refl, (no_classes_of updated, tt, cu)),
 )
@@ -528,7 +525,7 @@ c_assignment false r value updated cv cu = (
     refl,
     λ l x k. omega (arith, variable_deep l x k),
     (inl refl, refl, refl, λ l x k. omega (arith, assigned_deep l x k), c_ternary false r, (λ x. refl, behind_checks table value cv (op mark.Assign))),
-    ((λ x. omega arith), (λ x. refl, (λ x. refl, (no_classes_of updated, tt, cu)))),
+    (inl (λ x. omega arith), (λ x. refl, (λ x. refl, (no_classes_of updated, tt, cu)))),
   ),
   (λ x. refl, (no_classes_of updated, tt, cu)),
 )
@@ -1049,7 +1046,7 @@ c_simple r = (refl, refl, c_alias r, (refl, refl, c_undef r, c_expression true r
 
 c_modifier : (r : Bool) → Checks table (modifier r)
 unfolding table then_sign else_part branch otherwise if_value unless_value loop_body while_value until_value when_clause case_value class_header rescue_clause body_else body_ensure handlers begin_value module_body class_value module_value keyword_form newlines behind_newlines paren closed brace_block do_block block tail paren_tail keyword_value word_value integer_value text ivar_value gvar_value top_constant word_list embedded interpolated parenthesized array label_key pair_in_braces hash_value name_call constant_value super_value yield_value prim dot_part scope_part bracket post not_level power_level minus_level product_level sum_level shift_level comparison_level equal_level equality_level and_level or_level range_level ternary argument command_arguments command_part splat item more_items splat_list other_items one_value nested_value right_side jump_value jump command_level block_argument label_pair arrow_pair arguments_from arguments cargs more_pairs method_name not_expression expression alias_statement undef_statement simple modifier statement line statement_list
-c_modifier r = (refl, refl, (λ x. refl, (refl, tt, tt)), (refl, refl, (λ x. refl, (refl, tt, tt)), (refl, refl, (λ x. refl, (refl, tt, tt)), (λ x. refl, ((λ x. until_level x), (λ x. until_deep x, (refl, tt, tt)))))))
+c_modifier r = (refl, refl, (λ x. refl, (refl, tt, tt)), (refl, refl, (λ x. refl, (refl, tt, tt)), (refl, refl, (λ x. refl, (refl, tt, tt)), (λ x. refl, (inl (λ x. omega arith), (λ x. until_deep x, (refl, tt, tt)))))))
 
 pub c_statement : (r : Bool) → Checks table (statement r)
 unfolding table then_sign else_part branch otherwise if_value unless_value loop_body while_value until_value when_clause case_value class_header rescue_clause body_else body_ensure handlers begin_value module_body class_value module_value keyword_form newlines behind_newlines paren closed brace_block do_block block tail paren_tail keyword_value word_value integer_value text ivar_value gvar_value top_constant word_list embedded interpolated parenthesized array label_key pair_in_braces hash_value name_call constant_value super_value yield_value prim dot_part scope_part bracket post not_level power_level minus_level product_level sum_level shift_level comparison_level equal_level equality_level and_level or_level range_level ternary argument command_arguments command_part splat item more_items splat_list other_items one_value nested_value right_side jump_value jump command_level block_argument label_pair arrow_pair arguments_from arguments cargs more_pairs method_name not_expression expression alias_statement undef_statement simple modifier statement line statement_list
