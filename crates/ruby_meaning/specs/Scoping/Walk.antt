@@ -211,14 +211,21 @@ noted_call alone name args block marked mark r s =
     (refuse_if (is_eval alone name args) mark construct.Eval
     (called (if is_target r then setter name else name) s)))
 
--- A call without receiver may be the name of a local, or a `require`.
+-- what a call says before its parts do: without receiver it may be a `require`
+unfoldable pub noted : Option ℕ → Option Part → Name → List Part → Option Part → Option Pos → Pos → Role → Seen → Seen
+noted below receiver name args block marked mark r s =
+    if is_none receiver && is_require name then noted_require below name args block marked mark s
+    else noted_call (is_none receiver) name args block marked mark r s
+
+-- a call without receiver, arguments and block that has the name of a local
+unfoldable pub names_local : Option Part → Name → List Part → Option Part → Seen → Bool
+names_local receiver name args block s = is_none receiver && is_empty args && is_none block && is_local s name
+
 abbrev pub call : Option ℕ → Option Part → Name → List Part → Option Part → Option Pos → Pos → Around → Seen → Seen
 call below receiver name args block marked mark c s =
-    if is_none receiver && is_empty args && is_none block && is_local s name then name_local name s
-    else (if is_none receiver && is_require name then
-        if_any block (plain c) (all args (plain c) (noted_require below name args block marked mark s))
+    if names_local receiver name args block s then name_local name s
     else if_any block (plain c) (all args (as_role (if is_shown_text receiver name args block then role.Shown else role.Plain) c)
-        (if_any receiver (plain c) (noted_call (is_none receiver) name args block marked mark c.role s))))
+        (if_any receiver (plain c) (noted below receiver name args block marked mark c.role s)))
 
 -- ---- parameters
 
