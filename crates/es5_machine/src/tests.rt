@@ -1,6 +1,6 @@
 use super::*;
 use es5_tree::{EsExpr, EsKind, EsStmt, Script};
-use opal_base::{MemSink, NoMemory, Pos, Units, utf8_to_units};
+use opal_base::{MemSink, NoMemory, Pos, Units, units_to_utf8, utf8_to_units};
 use sqlite_items::{Boxed, Items};
 use std::alloc::Global;
 use std::process::Abort;
@@ -51,10 +51,6 @@ fn one(alloc: Global, statement: EsStmt) -> Result<Script, Fail> {
     Ok(Script { body })
 }
 
-fn start(alloc: Global, script: Script, cells: u32) -> Result<Machine, Fail> {
-    Ok(Machine::start(alloc, script, Units::new(alloc), cells)?)
-}
-
 // At most so many steps, of a machine that took few.
 fn run(machine: &mut Machine, steps: u32, sink: &mut MemSink) -> Result<RunEnd, Fail> {
     if machine.steps_begun() > 1000 {
@@ -63,122 +59,145 @@ fn run(machine: &mut Machine, steps: u32, sink: &mut MemSink) -> Result<RunEnd, 
     Ok(machine.run(steps as u64, sink))
 }
 
-#[test]
-fn writes_after_the_fifth_step(rt: HostRuntime) -> Result<(), Fail> {
-    let alloc = rt.alloc();
-    let mut sink = MemSink::new(alloc, 100, Vec::new(alloc));
-    let mut machine = start(alloc, writes(alloc, &["a"])?, 0)?;
-    assert!(rt; matches!(&run(&mut machine, 4, &mut sink)?, RunEnd::OutOfSteps));
-    assert_eq!(rt; sink.taken(), b"".as_slice());
-    assert_eq!(rt; machine.steps_begun(), 4);
-    assert!(rt; matches!(&run(&mut machine, 1, &mut sink)?, RunEnd::Finished));
-    assert_eq!(rt; sink.taken(), b"a".as_slice());
-    assert_eq!(rt; machine.steps_begun(), 5);
-    assert!(rt; matches!(&run(&mut machine, 9, &mut sink)?, RunEnd::Finished));
-    assert_eq!(rt; sink.taken(), b"a".as_slice());
-    assert_eq!(rt; machine.steps_begun(), 5);
-    Ok(())
+fn push_text(alloc: Global, line: &mut Vec<u8>, text: &Units) -> Result<(), Fail> {
+    Ok(line.extend_from_slice(units_to_utf8(alloc, text)?.as_slice())?)
 }
 
-#[test]
-fn takes_no_step_of_no_statement(rt: HostRuntime) -> Result<(), Fail> {
-    let alloc = rt.alloc();
-    let mut sink = MemSink::new(alloc, 100, Vec::new(alloc));
-    let mut empty = start(alloc, writes(alloc, &[])?, 0)?;
-    assert!(rt; matches!(&run(&mut empty, 0, &mut sink)?, RunEnd::Finished));
-    let mut machine = start(alloc, writes(alloc, &["a"])?, 0)?;
-    assert!(rt; matches!(&run(&mut machine, 0, &mut sink)?, RunEnd::OutOfSteps));
-    assert_eq!(rt; machine.steps_begun(), 0);
-    Ok(())
-}
-
-#[test]
-fn slices_write_as_one_call(rt: HostRuntime) -> Result<(), Fail> {
-    let alloc = rt.alloc();
-    let texts = ["ab", "", "cde"];
-    let mut whole = MemSink::new(alloc, 100, Vec::new(alloc));
-    let mut at_once = start(alloc, writes(alloc, &texts)?, 0)?;
-    assert!(rt; matches!(&run(&mut at_once, 15, &mut whole)?, RunEnd::Finished));
-    assert_eq!(rt; whole.taken(), b"abcde".as_slice());
-    let mut bytes = MemSink::new(alloc, 1, Vec::new(alloc));
-    let mut machine = start(alloc, writes(alloc, &texts)?, 0)?;
-    for _ in 0..14 {
-        assert!(rt; matches!(&run(&mut machine, 1, &mut bytes)?, RunEnd::OutOfSteps));
+fn kind_name(kind: OutKind) -> &'static [u8] {
+    match kind {
+        OutKind::Number => b"number",
+        OutKind::Division => b"division",
+        OutKind::Conversion => b"conversion",
+        OutKind::Host => b"host",
     }
-    assert_eq!(rt; bytes.taken(), b"ab".as_slice());
-    assert!(rt; matches!(&run(&mut machine, 1, &mut bytes)?, RunEnd::Finished));
-    assert_eq!(rt; bytes.taken(), b"abcde".as_slice());
-    Ok(())
 }
 
-#[test]
-fn keeps_a_fault_of_the_sink(rt: HostRuntime) -> Result<(), Fail> {
-    let alloc = rt.alloc();
-    let mut sink = MemSink::new(alloc, 1, vec![in alloc; 2]?);
-    let mut machine = start(alloc, writes(alloc, &["ab", "cd"])?, 0)?;
-    assert!(rt; matches!(&run(&mut machine, 100, &mut sink)?, RunEnd::WriteFault));
-    assert_eq!(rt; sink.taken(), b"ab".as_slice());
-    assert!(rt; matches!(&run(&mut machine, 100, &mut sink)?, RunEnd::WriteFault));
-    assert_eq!(rt; sink.taken(), b"ab".as_slice());
-    assert_eq!(rt; machine.steps_begun(), 10);
-    Ok(())
-}
-
-#[test]
-fn throws_for_a_missing_name(rt: HostRuntime) -> Result<(), Fail> {
-    let alloc = rt.alloc();
-    let mut sink = MemSink::new(alloc, 100, Vec::new(alloc));
-    let statement = call(alloc, name(alloc, "absent")?, name(alloc, "undefined")?)?;
-    let mut machine = start(alloc, one(alloc, statement)?, 1)?;
-    for _ in 0..2 {
-        let wanted = text(alloc, "not defined: absent")?;
-        match run(&mut machine, 100, &mut sink)? {
-            RunEnd::Uncaught { name, message } => {
-                assert_eq!(rt; name.as_slice(), text(alloc, "ReferenceError")?.as_slice());
-                assert_eq!(rt; message.as_slice(), wanted.as_slice());
-            }
-            _ => assert!(rt; false, "no throw"),
-        }
-        assert_eq!(rt; machine.steps_begun(), 3);
-    }
-    let statement = call(alloc, name(alloc, "absent")?, name(alloc, "undefined")?)?;
-    let mut full = start(alloc, one(alloc, statement)?, 0)?;
-    assert!(rt; matches!(&run(&mut full, 100, &mut sink)?, RunEnd::CellsFull));
-    Ok(())
-}
-
-#[test]
-fn throws_for_what_is_no_function(rt: HostRuntime) -> Result<(), Fail> {
-    let alloc = rt.alloc();
-    let mut sink = MemSink::new(alloc, 100, Vec::new(alloc));
-    let statement = call(alloc, name(alloc, "$host")?, name(alloc, "undefined")?)?;
-    let mut machine = start(alloc, one(alloc, statement)?, 1)?;
-    match run(&mut machine, 100, &mut sink)? {
+// An end in a few words.
+fn push_end(alloc: Global, line: &mut Vec<u8>, end: &RunEnd) -> Result<(), Fail> {
+    match end {
+        RunEnd::Finished => Ok(line.extend_from_slice(b"finished")?),
         RunEnd::Uncaught { name, message } => {
-            assert_eq!(rt; name.as_slice(), text(alloc, "TypeError")?.as_slice());
-            assert_eq!(rt;
-                message.as_slice(),
-                text(alloc, "not a function")?.as_slice()
-            );
+            push_text(alloc, line, name)?;
+            line.extend_from_slice(b": ")?;
+            push_text(alloc, line, message)
         }
-        _ => assert!(rt; false, "no throw"),
+        RunEnd::Outside { kind, pos } => {
+            line.extend_from_slice(kind_name(*kind))?;
+            let place = format!(in alloc; " {}:{}", pos.line, pos.col)?;
+            Ok(line.extend_from_slice(place.as_bytes())?)
+        }
+        RunEnd::OutOfSteps => Ok(line.extend_from_slice(b"more")?),
+        RunEnd::CellsFull => Ok(line.extend_from_slice(b"full")?),
+        RunEnd::WriteFault => Ok(line.extend_from_slice(b"fault")?),
+        RunEnd::NoMemory => Ok(line.extend_from_slice(b"memory")?),
+    }
+}
+
+// What a script does in slices of so many steps: of each its end and what the sink has taken by
+// then; and at last the steps begun.
+fn trace(
+    alloc: Global,
+    script: Script,
+    cells: u32,
+    slices: &[u32],
+    sink: &mut MemSink,
+) -> Result<Vec<u8>, Fail> {
+    let mut machine = Machine::start(alloc, script, Units::new(alloc), cells)?;
+    let mut line = Vec::new(alloc);
+    for steps in slices {
+        let end = run(&mut machine, *steps, sink)?;
+        push_end(alloc, &mut line, &end)?;
+        line.extend_from_slice(b" [")?;
+        line.extend_from_slice(sink.taken())?;
+        line.extend_from_slice(b"], ")?;
+    }
+    let steps = format!(in alloc; "{}", machine.steps_begun())?;
+    line.extend_from_slice(steps.as_bytes())?;
+    Ok(line)
+}
+
+/// Texts that a script writes, the slices of its run, the bytes that the sink takes a call, the call
+/// that fails, and what is seen.
+type Row<'a> = (&'a [&'a str], &'a [u32], usize, u64, &'a str);
+
+#[test]
+fn scripts_that_write(rt: HostRuntime) -> Result<(), Fail> {
+    let alloc = rt.alloc();
+    let rows: [Row<'_>; 8] = [
+        (
+            &["a"],
+            &[4, 1, 9],
+            100,
+            99,
+            "more [], finished [a], finished [a], 5",
+        ),
+        (&[], &[0], 100, 99, "finished [], 0"),
+        (&["a"], &[0], 100, 99, "more [], 0"),
+        (&["ab", "", "cde"], &[15], 100, 99, "finished [abcde], 15"),
+        (&["ab", "", "cde"], &[15], 1, 99, "finished [abcde], 15"),
+        (
+            &["ab", "", "cde"],
+            &[5, 9, 1],
+            1,
+            99,
+            "more [ab], more [ab], finished [abcde], 15",
+        ),
+        (
+            &["ab", "c"],
+            &[1, 1, 1, 1, 1, 1, 1, 1, 1, 1],
+            2,
+            99,
+            "more [], more [], more [], more [], more [ab], more [ab], more [ab], more [ab], more [ab], finished [abc], 10",
+        ),
+        (
+            &["ab", "cd"],
+            &[100, 100],
+            1,
+            2,
+            "fault [ab], fault [ab], 10",
+        ),
+    ];
+    for (texts, slices, most, failing, seen) in rows {
+        let mut sink = MemSink::new(alloc, most.max(1), vec![in alloc; failing]?);
+        let line = trace(alloc, writes(alloc, texts)?, 0, slices, &mut sink)?;
+        assert_eq!(rt; line.as_slice(), seen.as_bytes());
     }
     Ok(())
 }
 
-#[test]
-fn leaves_the_profile_for_other_arguments(rt: HostRuntime) -> Result<(), Fail> {
-    let alloc = rt.alloc();
+// What a script of one call shows in two slices.
+fn traced_call(alloc: Global, callee: EsExpr, cells: u32) -> Result<Vec<u8>, Fail> {
+    let statement = call(alloc, callee, name(alloc, "undefined")?)?;
     let mut sink = MemSink::new(alloc, 100, Vec::new(alloc));
+    trace(alloc, one(alloc, statement)?, cells, &[100, 100], &mut sink)
+}
+
+#[test]
+fn a_missing_name_is_thrown(rt: HostRuntime) -> Result<(), Fail> {
+    let alloc = rt.alloc();
+    let line = traced_call(alloc, name(alloc, "absent")?, 1)?;
+    let seen: &[u8] =
+        b"ReferenceError: not defined: absent [], ReferenceError: not defined: absent [], 3";
+    assert_eq!(rt; line.as_slice(), seen);
+    let full = traced_call(alloc, name(alloc, "absent")?, 0)?;
+    assert_eq!(rt; full.as_slice(), b"full [], full [], 3".as_slice());
+    Ok(())
+}
+
+#[test]
+fn what_is_no_function_is_thrown(rt: HostRuntime) -> Result<(), Fail> {
+    let alloc = rt.alloc();
+    let line = traced_call(alloc, name(alloc, "$host")?, 1)?;
+    let seen: &[u8] = b"TypeError: not a function [], TypeError: not a function [], 4";
+    assert_eq!(rt; line.as_slice(), seen);
+    Ok(())
+}
+
+#[test]
+fn other_arguments_leave_the_profile(rt: HostRuntime) -> Result<(), Fail> {
+    let alloc = rt.alloc();
     let callee = EsKind::Member(name(alloc, "$host")?, text(alloc, "write")?);
-    let statement = call(alloc, expr(alloc, callee)?, name(alloc, "undefined")?)?;
-    let mut machine = start(alloc, one(alloc, statement)?, 0)?;
-    match run(&mut machine, 100, &mut sink)? {
-        RunEnd::Outside { kind, pos } => {
-            assert_eq!(rt; kind, OutKind::Host);
-            assert_eq!(rt; pos, Pos { line: 2, col: 3 });
-        }
-        _ => assert!(rt; false, "inside"),
-    }
+    let line = traced_call(alloc, expr(alloc, callee)?, 0)?;
+    assert_eq!(rt; line.as_slice(), b"host 2:3 [], host 2:3 [], 5".as_slice());
     Ok(())
 }
