@@ -4,3 +4,4 @@ pub mod Reading
 pub mod Elements
 pub mod Named
 pub mod Places
+pub mod Quiet

@@ -5,6 +5,7 @@
 mod answer;
 mod argument;
 mod array;
+mod dispatch;
 mod element;
 mod function;
 mod host;
@@ -15,6 +16,7 @@ mod values;
 
 pub use answer::{HostAnswer, HostFn, OutKind};
 pub use array::{is_array, keys, push, slice};
+pub use dispatch::host_call;
 pub use function::{apply, call};
 pub use host::{line, write};
 pub use lines::Lines;
