@@ -5,3 +5,4 @@ pub mod Elements
 pub mod Named
 pub mod Places
 pub mod Quiet
+pub mod RowsNamed

@@ -4,7 +4,7 @@ ghost use Rattle.std.specs.Prelude.{◌≡◌, ◌≤◌, All, length};
 ghost use Rattle.es5_tree.specs.Intrinsics.Rows.{row};
 ghost use Rattle.es5_tree.specs.Intrinsics.Valid.{Names, Valid};
 ghost use Rattle.es5_objects.specs.Values.{value_of};
-ghost use Rattle.es5_host.specs.Answers.{Answered, Caused, ReadBy, TookBy};
+ghost use Rattle.es5_host.specs.Answers.{Answered, Caused, NamesInAnswer, ReadBy, TookBy};
 ghost use Rattle.es5_host.specs.Values.{fn_of};
 
 use crate::answer::{HostAnswer, HostFn};
@@ -19,10 +19,8 @@ use es5_objects::{EsValue, ObjHeap};
 use opal_base::Sink;
 use std::alloc::Global;
 
-/// Calls an intrinsic function with a `this` and arguments. After `Throw`, `Invoke`, `Outside`,
-/// `CellsFull` and `WriteFault` the heap and the lines are as before. After `WriteFault` and
-/// `NoMemory` the sink took a front of what is written.
-pub fn host_call<S: Sink>(
+// The answer of each function.
+fn answer<S: Sink>(
     alloc: Global,
     heap: &mut ObjHeap,
     which: HostFn,
@@ -59,4 +57,30 @@ pub fn host_call<S: Sink>(
         HostFn::Write => write(alloc, args, sink),
         HostFn::Line => line(alloc, input, args),
     }
+}
+
+/// Calls an intrinsic function with a `this` and arguments. After `Throw`, `Invoke`, `Outside`,
+/// `CellsFull` and `WriteFault` the heap and the lines are as before. After `WriteFault` and
+/// `NoMemory` the sink took a front of what is written.
+pub fn host_call<S: Sink>(
+    alloc: Global,
+    heap: &mut ObjHeap,
+    which: HostFn,
+    this: &EsValue,
+    args: &EsValues,
+    input: &mut Lines,
+    sink: &mut S,
+) -> HostAnswer
+    requires this { Names (length heap.old.cells) (value_of this.now) }
+    requires args { All (Names (length heap.old.cells)) args.now }
+    requires valid { Valid heap.old.cells }
+    ensures answer { Answered (row (fn_of which) heap.old.cells input.old (value_of this.now) args.now) result heap.old heap.new }
+    ensures valid { Valid heap.new.cells }
+    ensures read { ReadBy (fn_of which) (row (fn_of which) heap.old.cells input.old (value_of this.now) args.now) result input.old input.new }
+    ensures took { TookBy (fn_of which) (row (fn_of which) heap.old.cells input.old (value_of this.now) args.now) result (S.told sink.old) (S.told sink.new) }
+    ensures later { S.faults sink.old ≤ S.faults sink.new }
+    ensures cause { Caused result (S.faults sink.old) (S.faults sink.new) }
+    ensures named { NamesInAnswer (length heap.new.cells) result }
+{
+    answer(alloc, heap, which, this, args, input, sink)
 }

@@ -1,18 +1,11 @@
+use Rattle.es5_tree.specs.Intrinsics.Rows.{row}
 use Rattle.es5_objects.specs.Values.{value_of}
-use Rattle.es5_host.proofs.Quiet.{no_fault, char_code_at_quiet, substring_quiet, index_of_quiet, from_char_code_quiet, line_quiet}
+use Rattle.es5_host.specs.Values.{fn_of}
+use Rattle.es5_host.proofs.RowsNamed.{answer_named, rows_named}
 use Rattle.es5_host.proofs.dispatch.host_call.Goals as goal
 
-pub returns-in-CharCodeAt-clause-cause : goal.returns-in-CharCodeAt-clause-cause
-returns-in-CharCodeAt-clause-cause g c = no_fault _ c.char_code_at.result _ _ _ _ (char_code_at_quiet (value_of c.args.this.now) c.args.args.now) (c.char_code_at.ensures c.args.heap.now)
-
-pub returns-in-Substring-clause-cause : goal.returns-in-Substring-clause-cause
-returns-in-Substring-clause-cause g c = no_fault _ c.substring.result _ _ _ _ (substring_quiet (value_of c.args.this.now) c.args.args.now) (c.substring.ensures c.args.heap.now)
-
-pub returns-in-IndexOf-clause-cause : goal.returns-in-IndexOf-clause-cause
-returns-in-IndexOf-clause-cause g c = no_fault _ c.index_of.result _ _ _ _ (index_of_quiet (value_of c.args.this.now) c.args.args.now) (c.index_of.ensures c.args.heap.now)
-
-pub returns-in-FromCharCode-clause-cause : goal.returns-in-FromCharCode-clause-cause
-returns-in-FromCharCode-clause-cause g c = no_fault _ c.from_char_code.result _ _ _ _ (from_char_code_quiet c.args.args.now) (c.from_char_code.ensures c.args.heap.now)
-
-pub returns-in-Line-clause-cause : goal.returns-in-Line-clause-cause
-returns-in-Line-clause-cause g c = no_fault _ c.line.result _ _ _ _ (line_quiet c.args.input.now c.args.args.now) (c.line.ensures.answer c.args.heap.now)
+pub returns-clause-named : goal.returns-clause-named
+returns-clause-named g c =
+    answer_named (row (fn_of c.args.which) c.args.heap.now.cells c.args.input.now (value_of c.args.this.now) c.args.args.now) c.answer.result c.args.heap.now c.answer.new.heap
+    (rows_named (fn_of c.args.which) c.args.heap.now.cells c.args.input.now (value_of c.args.this.now) c.args.args.now c.requires.valid c.requires.this c.requires.args)
+    c.answer.ensures.answer
