@@ -1,15 +1,16 @@
 -- Elements of arrays: lists of them, and objects into which they are put.
-use Rattle.std.proofs.Common.{◌≡◌, ℕ, zero, suc, ◌+◌, ◌<◌, ◌≤◌, List, [], ◌∷◌, ◌++◌, length, map, drop, set, get_or, Option, Some, None, refl, sym, ap, subst, ◌∙◌, arith, drop-cons, drop_of_length-le, Bool, true, false, ◌↔◌, ⊎_elim}
+use Rattle.std.proofs.Common.{◌≡◌, ℕ, zero, suc, ◌+◌, ◌<◌, ◌≤◌, List, [], ◌∷◌, ◌++◌, length, map, take, drop, set, get_or, slice_get, Option, Some, None, refl, sym, ap, subst, ◌∙◌, arith, drop-cons, drop_of_length-le, Bool, true, false, ◌↔◌, ⊎_elim}
 use Rattle.std.proofs.lemmas.Bool.{cases_lt, false≢true}
 use Rattle.std.specs.List.{All, range_with_len}
 use Rattle.std.proofs.Math.Seq.{set-append_seam, get_or-append_seam}
-use Rattle.std.proofs.lemmas.List.{get_or-set_same, set-set}
+use Rattle.std.proofs.lemmas.List.{get_or-set_same, set-set, map-append, take_more}
+use Rattle.std.proofs.lemmas.Option.{get_or_from_slice_get}
 use Rattle.std.proofs.lemmas.List.FromFn.{map-range_with_len_more}
-use Rattle.es5_tree.specs.State.{Text, Val}
+use Rattle.es5_tree.specs.State.{Text, Val, Str}
 use Rattle.es5_tree.specs.Objects.Names.{decimal}
 use Rattle.es5_tree.specs.Objects.Cells.{Cell, Object, new_cell}
 use Rattle.es5_tree.specs.Objects.Links.{cell_at, get}
-use Rattle.es5_tree.specs.Intrinsics.Rows.{elements, with_element, filled}
+use Rattle.es5_tree.specs.Intrinsics.Rows.{elements, with_element, filled, or_undefined}
 use Rattle.es5_tree.specs.Intrinsics.Valid.{NamesIf}
 use Rattle.es5_objects.specs.declared.value.EsValue.{EsValue}
 use Rattle.es5_objects.specs.Values.{value_if}
@@ -87,3 +88,21 @@ not_full b h e iff = ⊎_elim (λ (lt : length h.cells < h.capacity). lt) (λ (l
 
 pub room : (h : Heap) → (false ≡ true) ↔ (h.capacity ≤ length h.cells) → HasRoom h
 room h iff = not_full false h refl iff
+
+-- one more name
+pub names_more : (names : List Text) (i : ℕ) (name : Text) (xs ys : List (Option Val)) → slice_get names i ≡ Some name → i < length names → ys ≡ xs ++ Some (Str name) ∷ [] → xs ≡ map (λ n. Some (Str n)) (take i names) → ys ≡ map (λ n. Some (Str n)) (take (i + 1) names)
+names_more names i name xs ys at lt e h =
+    let here : get_or names i name ≡ name = get_or_from_slice_get names i name name at in
+    e ∙ (ap (λ zs. zs ++ Some (Str name) ∷ []) h
+    ∙ (ap (λ n. map (λ m. Some (Str m)) (take i names) ++ Some (Str n) ∷ []) (sym here)
+    ∙ (sym (map-append (λ m. Some (Str m)) (take i names) (get_or names i name ∷ []))
+    ∙ ap (map (λ m. Some (Str m))) (sym (take_more names i name lt)))))
+
+-- one more argument
+pub args_more : (cells : List Cell) (o i : ℕ) (name : Text) (v : Val) (xs ys : List Val) → name ≡ decimal i → v ≡ or_undefined (get cells o name) → ys ≡ xs ++ v ∷ [] → xs ≡ map or_undefined (elements cells o 0 i) → ys ≡ map or_undefined (elements cells o 0 (i + 1))
+args_more cells o i name v xs ys n e f h =
+    f
+    ∙ (ap (λ w. xs ++ w ∷ []) (e ∙ ap (λ m. or_undefined (get cells o m)) n)
+    ∙ (ap (λ zs. zs ++ or_undefined (get cells o (decimal i)) ∷ []) h
+    ∙ (sym (map-append or_undefined (elements cells o 0 i) (get cells o (decimal i) ∷ []))
+    ∙ ap (map or_undefined) (sym (map-range_with_len_more (λ k. get cells o (decimal k)) 0 i i (omega arith))))))

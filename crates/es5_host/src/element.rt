@@ -1,9 +1,10 @@
 //! Elements of arrays.
 
-ghost use Rattle.std.specs.Prelude.{◌≡◌, ◌+◌, ◌<◌, ◌^◌, [], ◌∷◌, ◌++◌, length, map, IfOk, OnOk, All};
+ghost use Rattle.std.specs.Prelude.{◌≡◌, ◌+◌, ◌<◌, ◌^◌, [], ◌∷◌, ◌++◌, length, map, Some, IfOk, OnOk, All};
 ghost use Rattle.std.specs.Option.{option_copied};
 ghost use Rattle.es5_tree.specs.Objects.Links.{cell_at, get};
 ghost use Rattle.es5_tree.specs.Objects.Names.{decimal};
+ghost use Rattle.es5_tree.specs.State.{Str};
 ghost use Rattle.es5_tree.specs.Intrinsics.Rows.{elements, with_element, filled, array_of, Makes};
 ghost use Rattle.es5_tree.specs.Intrinsics.Valid.{Valid};
 ghost use Rattle.es5_objects.specs.Heap.{with_cell};
@@ -12,8 +13,8 @@ ghost use Rattle.es5_host.specs.Answers.{Answered};
 ghost use Rattle.es5_tree.specs.Intrinsics.Valid.{NamesIf};
 
 use crate::answer::HostAnswer;
-use es5_objects::{CellKind, EsValue, ObjHeap, decimal};
-use opal_base::NoMemory;
+use es5_objects::{CellKind, EsText, EsValue, ObjHeap, decimal};
+use opal_base::{Names, NoMemory, Units};
 use std::alloc::Global;
 
 // The number of `Array.prototype`.
@@ -127,4 +128,26 @@ pub fn make_array(alloc: Global, heap: &mut ObjHeap, items: &[Option<EsValue>]) 
             Err(_) => HostAnswer::NoMemory,
         },
     }
+}
+
+// Puts a text at the end, as an element.
+fn push_name(alloc: Global, items: &mut Vec<Option<EsValue>>, name: &Units) -> Result<(), NoMemory>
+    ensures { OnOk result (map value_if items.new.items ≡ map value_if items.old.items ++ Some (Str name.now) ∷ []) }
+{
+    let text = EsText::new(alloc, name.try_clone()?)?;
+    match items.push(Some(EsValue::Str(text))) {
+        Ok(()) => Ok(()),
+        Err(_) => Err(NoMemory),
+    }
+}
+
+/// The names as elements.
+pub fn name_elements(alloc: Global, names: &Names) -> Result<Vec<Option<EsValue>>, NoMemory>
+    ensures { IfOk result (λ items. map value_if items.items ≡ map (λ name. Some (Str name)) names.now) }
+{
+    let mut items = Vec::new(alloc);
+    for i in 0..names.len() {
+        push_name(alloc, &mut items, names.at(i))?;
+    }
+    Ok(items)
 }

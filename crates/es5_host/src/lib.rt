@@ -5,13 +5,21 @@
 mod answer;
 mod argument;
 mod array;
+mod dispatch;
 mod element;
+mod function;
+mod host;
 mod lines;
 mod object;
+mod text;
 mod values;
 
 pub use answer::{HostAnswer, HostFn, OutKind};
-pub use array::is_array;
+pub use array::{is_array, keys, push, slice};
+pub use dispatch::host_call;
+pub use function::{apply, call};
+pub use host::{line, write};
 pub use lines::Lines;
 pub use object::{create, get_prototype_of, has_own_property, set_prototype_of};
+pub use text::{char_code_at, from_char_code, index_of, substring};
 pub use values::EsValues;

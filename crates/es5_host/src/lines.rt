@@ -35,16 +35,16 @@ fn line_of(text: &[u16]) -> &[u16]
     text
 }
 
-// The units from a place on.
-fn rest_of(units: &[u16], at: usize) -> &[u16]
+/// The units from a place on.
+pub fn rest_of(units: &[u16], at: usize) -> &[u16]
     requires { at ≤ length units.now }
     ensures { result.now ≡ drop at units.now }
 {
     &units[at..]
 }
 
-// The units as a text.
-fn copy(alloc: Global, units: &[u16]) -> Result<Units, NoMemory>
+/// The units as a text.
+pub fn copy(alloc: Global, units: &[u16]) -> Result<Units, NoMemory>
     ensures { IfOk result (λ text. text ≡ units.now) }
 {
     let mut items = Vec::new(alloc);
