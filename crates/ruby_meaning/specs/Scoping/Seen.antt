@@ -86,7 +86,7 @@ block_closed params named scopes inner = record inner {
   params = params;
   named = named;
   outer = outer_ones inner.outer;
-  scopes = scopes ++ record { own = inner.own; outer = inner.named } ∷ inner.scopes
+  scopes = scopes ++ record { own = inner.own; outer = inner.named } ∷ inner.scopes;
 }
 
 -- Behind a body that sees no scope around it, the scope around it is as it was.
@@ -96,7 +96,7 @@ body_closed own params named outer scopes inner = record inner {
   params = params;
   named = named;
   outer = outer;
-  scopes = scopes ++ record { own = inner.own; outer = inner.named } ∷ inner.scopes
+  scopes = scopes ++ record { own = inner.own; outer = inner.named } ∷ inner.scopes;
 }
 
 -- a block or a lambda sees the scope around it

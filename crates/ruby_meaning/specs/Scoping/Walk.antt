@@ -225,7 +225,7 @@ abbrev pub call : Option ℕ → Option Part → Name → List Part → Option P
 call below receiver name args block marked mark c s =
     if names_local receiver name args block s then name_local name s
     else if_any block (plain c) (all args (as_role (if is_shown_text receiver name args block then role.Shown else role.Plain) c)
-        (if_any receiver (plain c) (noted below receiver name args block marked mark c.role s)))
+    (if_any receiver (plain c) (noted below receiver name args block marked mark c.role s)))
 
 -- ---- parameters
 
