@@ -2,6 +2,7 @@ pub mod Classes
 pub mod Seen
 pub mod Actions
 pub mod Names
+pub mod Parameters
 pub mod Calls
 pub mod Definitions
 pub mod Primaries

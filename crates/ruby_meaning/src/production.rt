@@ -28,6 +28,19 @@ pub enum Sign {
     Marked(Mark),
 }
 
+/// What stands before a parameter in its list.
+#[derive(Clone, Copy, Debug, PartialEq, Eq)]
+pub enum Stage {
+    /// Names alone.
+    Plain,
+    /// One with a default, and no name behind it.
+    Optional,
+    /// `*`, and no name behind it.
+    Rest,
+    /// A name behind a default or a `*`.
+    After,
+}
+
 /// A production of the grammar.
 #[derive(Clone, Copy, Debug, PartialEq, Eq)]
 pub enum Production {
@@ -77,6 +90,8 @@ pub enum Production {
     MorePairs(bool),
     /// What stands behind the first part of an `if`: `elsif` parts and an `else`.
     Otherwise,
+    /// `params` behind such ones; a name may be names in brackets, or may not
+    Parameters(Stage, bool),
 }
 
 /// A production where it stands: whether it may take a `do` block, and whether it stands in the

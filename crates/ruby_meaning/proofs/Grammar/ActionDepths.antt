@@ -1,11 +1,11 @@
 -- How deep the nodes are that the productions make.
-use Rattle.std.proofs.Common.{◌≡◌, ℕ, zero, suc, ◌≤◌, max, Bool, true, false, List, [], ◌∷◌, Option, Some, None, refl, sym, ap, ◌∙◌, arith, true≢false}
+use Rattle.std.proofs.Common.{◌≡◌, ℕ, zero, suc, ◌+◌, ◌≤◌, max, Bool, true, false, List, [], ◌∷◌, map, Option, Some, None, refl, sym, ap, ◌∙◌, arith, true≢false}
 use Rattle.std.specs.Prelude.{if◌then◌else◌, ◌||◌, nat_eq, is_some}
 use Rattle.opal_base.specs.declared.place.Pos.{Pos}
 use Rattle.opal_base.specs.declared.place.Span.{Span}
 use Rattle.grammar.specs.Forms.{deepest}
 use Rattle.grammar.specs.Rules.{Held, deep_if}
-use Rattle.grammar.proofs.Depths.{deepest_append}
+use Rattle.grammar.proofs.Depths.{deepest_append, deepest_flat}
 use Rattle.ruby_meaning.specs.declared.tree.Base.{Base, Base-F, out-Base, map-Base}
 use Rattle.ruby_meaning.specs.declared.tree.Base.TheVariants as base
 use Rattle.ruby_meaning.specs.declared.tree.Kind.{Kind, Kind-F, map-Kind}
@@ -16,6 +16,8 @@ use Rattle.ruby_meaning.specs.declared.tree.Operator.{Operator}
 use Rattle.ruby_meaning.specs.declared.tree.Operator.TheVariants as operator
 use Rattle.ruby_meaning.specs.declared.tree.Params.{Params}
 use Rattle.ruby_meaning.specs.declared.tree.Node.{Node}
+use Rattle.ruby_meaning.specs.declared.production.Stage.{Stage}
+use Rattle.ruby_meaning.specs.declared.production.Stage.TheVariants as stage
 use Rattle.ruby_meaning.specs.Depth.{of_kind, of_base, depth_of, kind_depth, base_depth, form_depth, params_depth}
 use Rattle.ruby_meaning.specs.Grammar.Seen.{Seen}
 use Rattle.ruby_meaning.specs.Grammar.Actions as act
@@ -76,9 +78,19 @@ bare_deep r u s m =
     if_same depth_of 1 _ _ _ (d.depth_lit _ s m) (if_same depth_of 1 _ _ _ (d.depth_reraise s m) plain)
 
 pub named_deep : (r : Bool) (t : Seen) (tail : Tail) → depth_of ((act.named_node r t tail).0) ≡ suc (tail_depth tail)
-named_deep r t (None, None) = omega (arith, bare_deep r (act.units t) (act.span_of t) (act.start t))
-named_deep r t (None, Some b) = omega (arith, call_deep None (act.units t) (None, Some b) (act.to_end (act.span_of t) b.span) (act.start t))
-named_deep r t (Some x, block) = omega (arith, call_deep None (act.units t) (Some x, block) (act.to_end (act.span_of t) (act.end_of (act.span_of t) (Some x) block)) (act.start t))
+named_deep r t tail = by tail
+  where
+    call : (tail : Tail) → depth_of (act.call_node None (act.units t) tail (act.to_end (act.span_of t) (act.end_of (act.span_of t) tail.0 tail.1)) (act.start t)) ≡ suc (tail_depth tail)
+    call tail = omega (arith, call_deep None (act.units t) tail (act.to_end (act.span_of t) (act.end_of (act.span_of t) tail.0 tail.1)) (act.start t))
+
+    by : (tail : Tail) → depth_of ((act.named_node r t tail).0) ≡ suc (tail_depth tail)
+    by (None, None) = omega (arith, bare_deep r (act.units t) (act.span_of t) (act.start t))
+    by (None, Some b) = call (None, Some b)
+    by (Some (([], ([], None)), z), None) = omega (arith, bare_deep r (act.units t) (act.tokens t z) (act.start t))
+    by (Some (([], ([], None)), z), Some b) = call (Some (([], ([], None)), z), Some b)
+    by (Some (([], ([], Some o)), z), block) = call (Some (([], ([], Some o)), z), block)
+    by (Some (([], (p ∷ ps, o)), z), block) = call (Some (([], (p ∷ ps, o)), z), block)
+    by (Some ((n ∷ ns, more), z), block) = call (Some ((n ∷ ns, more), z), block)
 
 pub constant_deep : (t : Seen) (tail : Tail) → depth_of ((act.constant_node t tail).0) ≡ suc (tail_depth tail)
 constant_deep t (None, None) = omega (arith, d.depth_const_get base.Here (act.units t) (act.span_of t) (act.start t), d.depth_here)
@@ -99,6 +111,94 @@ replaced_deep s m n = d.depth_made n.kind s m ∙ sym (d.depth_made n.kind n.spa
 pub filled_deep : (s : Span) (x : Node × ℕ) → depth_of (act.filled s x) ≡ depth_of x.0
 filled_deep s (n, zero) = refl
 filled_deep s (n, suc k) = replaced_deep s s.from n
+
+-- ---- parameters
+
+pub flat_option : {A : Type 0} (o : Option A) → deep_if (λ x. 0) o ≡ 0
+flat_option None = refl
+flat_option (Some x) = refl
+
+abbrev pub parameters_depth : act.Parameters → ℕ
+parameters_depth x =
+    max (deepest (deepest (λ t. 0)) x.0) (max (deepest (λ p. max 0 (depth_of p.1)) (x.1.0))
+    (max (deep_if (deep_if (λ t. 0)) (x.1.1.0)) (max (deepest (deepest (λ t. 0)) (x.1.1.1.0)) (deep_if (λ t. 0) (x.1.1.1.1)))))
+
+swapped : (n a b : ℕ) → max a (max n b) ≡ max n (max a b)
+swapped n a b = omega arith
+
+joined_first : (n a b : ℕ) → max (max n a) b ≡ max n (max a b)
+joined_first n a b = omega arith
+
+fourth : (n a b c e f : ℕ) → max a (max b (max c (max (max n e) f))) ≡ max n (max a (max b (max c (max e f))))
+fourth n a b c e f = ap (λ z. max a (max b (max c z))) (joined_first n e f) ∙ ap (λ z. max a (max b z)) (swapped n c (max e f)) ∙ ap (max a) (swapped n b (max c (max e f))) ∙ swapped n a (max b (max c (max e f)))
+
+after_deep : (names : List Seen) (x : act.Parameters) → parameters_depth (x.0, (x.1.0, (x.1.1.0, (names ∷ x.1.1.1.0, x.1.1.1.1)))) ≡ max (deepest (λ t. 0) names) (parameters_depth x)
+after_deep names x = fourth (deepest (λ t. 0) names) (deepest (deepest (λ t. 0)) x.0) (deepest (λ p. max 0 (depth_of p.1)) (x.1.0)) (deep_if (deep_if (λ t. 0)) (x.1.1.0)) (deepest (deepest (λ t. 0)) (x.1.1.1.0)) (deep_if (λ t. 0) (x.1.1.1.1))
+
+pub slot_deep : (s : Stage) (names : List Seen) (x : act.Parameters) → parameters_depth (act.with_slot s names x) ≡ max (deepest (λ t. 0) names) (parameters_depth x)
+slot_deep stage.Plain names x = joined_first (deepest (λ t. 0) names) (deepest (deepest (λ t. 0)) x.0) _
+slot_deep stage.Optional names x = after_deep names x
+slot_deep stage.Rest names x = after_deep names x
+slot_deep stage.After names x = after_deep names x
+
+pub name_deep : (s : Stage) (t : Seen) (o : Option Node) (x : act.Parameters) → parameters_depth (act.with_name s t o x) ≡ max (deep_if depth_of o) (parameters_depth x)
+name_deep s t None x = omega (arith, slot_deep s (t ∷ []) x)
+name_deep s t (Some n) x = omega arith
+
+flat_slots : (xs : List (List Seen)) → deepest (deepest (λ t. 0)) xs ≡ 0
+flat_slots [] = refl
+flat_slots (x ∷ xs) = omega (arith, deepest_flat x, flat_slots xs)
+
+flat_rest : (o : Option (Option Seen)) → deep_if (deep_if (λ t. 0)) o ≡ 0
+flat_rest None = refl
+flat_rest (Some o) = flat_option o
+
+pub rest_deep : (name : Option Seen) (x : act.Parameters) → parameters_depth (act.with_rest name x) ≡ parameters_depth x
+rest_deep name x =
+    ap (λ z. max (deepest (deepest (λ t. 0)) x.0) (max (deepest (λ p. max 0 (depth_of p.1)) (x.1.0)) (max z (max (deepest (deepest (λ t. 0)) (x.1.1.1.0)) (deep_if (λ t. 0) (x.1.1.1.1))))))
+    (flat_option name ∙ sym (flat_rest (x.1.1.0)))
+
+defaults_deep : (xs : List (Seen × Node)) → deepest depth_of (map (λ p. p.1) xs) ≡ deepest (λ p. max 0 (depth_of p.1)) xs
+defaults_deep [] = refl
+defaults_deep (x ∷ xs) = omega (arith, defaults_deep xs)
+
+made_deep : (x : act.Parameters) → params_depth (act.params_of x) ≡ deepest depth_of (map (λ p. p.1) (x.1.0))
+made_deep x = d.depth_params _
+
+pub parameters_deep : (x : act.Parameters) → params_depth (act.params_of x) ≡ parameters_depth x
+parameters_deep x = omega (arith, made_deep x, defaults_deep (x.1.0), flat_slots x.0, flat_rest (x.1.1.0), flat_slots (x.1.1.1.0), flat_option (x.1.1.1.1))
+
+pub lambda_deep : (params : act.Parameters) (body : Node × ℕ) (s : Span) → depth_of (act.lambda_of params body s) ≡ suc (max (parameters_depth params) (depth_of body.0))
+lambda_deep params body s = omega (arith, d.depth_lambda (act.params_of params) (act.filled s body) s s.from, parameters_deep params, filled_deep s body)
+
+-- ---- bodies and methods
+
+part_deep_if : (s : Span) (o : Option (Seen × (Node × ℕ))) → deep_if depth_of (act.part_if s o) ≡ deep_if (λ y. max 0 (depth_of (y.1.0))) o
+part_deep_if s None = refl
+part_deep_if s (Some x) = omega (arith, filled_deep s x.1)
+
+pub handlers_deep : (l : Seen × (Node × ℕ)) (h : act.Handlers) → depth_of ((act.with_handlers l h).1.0) ≡ suc (max (depth_of (l.1.0)) (max (deepest depth_of h.0) (max (deep_if (λ y. max 0 (depth_of (y.1.0))) (h.1.0)) (deep_if (λ y. max 0 (depth_of (y.1.0))) (h.1.1)))))
+handlers_deep l h =
+    let s = act.body_span l.1 h in
+    omega (arith, d.depth_begin (act.filled s l.1) h.0 (act.part_if s (h.1.0)) (act.part_if s (h.1.1)) s s.from, filled_deep s l.1, part_deep_if s (h.1.0), part_deep_if s (h.1.1))
+
+receiver_deep : (t : Seen) → depth_of (act.receiver_node t) ≡ 1
+receiver_deep t = by (act.is_constant t.token.kind)
+  where
+    by : (c : Bool) → depth_of (make (if c then kind.ConstGet base.Here (act.units t) else kind.SelfRef) (act.span_of t) (act.start t)) ≡ 1
+    by true = omega (arith, d.depth_const_get base.Here (act.units t) (act.span_of t) (act.start t), d.depth_here)
+    by false = d.depth_self_ref (act.span_of t) (act.start t)
+
+abbrev pub name_depth : act.DefName → ℕ
+name_depth x = max (deep_if depth_of x.0) (max 0 (deep_if (λ t. 0) (x.1.1)))
+
+pub on_deep : (l : act.DefName) (x : Seen × Option Seen) → act.is_receiver l ≡ true → name_depth (act.on_receiver l x) ≡ 1 + max (name_depth l) (max 0 (deep_if (λ t. 0) x.1))
+on_deep (None, (t, None)) x h = omega (arith, receiver_deep t, flat_option x.1)
+on_deep (None, (t, Some e)) x h = absurd (true≢false (sym h))
+on_deep (Some n, y) x h = absurd (true≢false (sym h))
+
+pub def_deep : (x : act.DefName) (params : act.Parameters) (body : Node × ℕ) (s : Span) → depth_of (act.def_node x params body s) ≡ suc (max (deep_if depth_of x.0) (max (parameters_depth params) (depth_of body.0)))
+def_deep x params body s = omega (arith, d.depth_def x.0 (act.full_name x.1) (act.params_of params) (act.filled s body) s (act.start (x.1.0)), parameters_deep params, filled_deep s body)
 
 -- ---- parts behind a value
 

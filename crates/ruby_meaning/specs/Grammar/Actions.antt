@@ -1,5 +1,5 @@
 -- The nodes that the productions spell, with their spans and marks.
-use Rattle.std.specs.Prelude.{ℕ, ℤ, pos, zero, suc, ◌+◌, ◌-◌, Bool, true, false, ◌&&◌, ◌||◌, nat_eq, if◌then◌else◌, List, [], ◌∷◌, ◌++◌, length, take, Option, Some, None, codes, is_some, bytes_eq}
+use Rattle.std.specs.Prelude.{ℕ, ℤ, pos, zero, suc, ◌+◌, ◌-◌, Bool, true, false, not, ◌&&◌, ◌||◌, nat_eq, if◌then◌else◌, List, [], ◌∷◌, ◌++◌, length, take, map, Option, Some, None, codes, is_some, bytes_eq}
 use Rattle.grammar.specs.Rules.{Held}
 use Rattle.opal_base.specs.declared.place.Pos.{Pos}
 use Rattle.opal_base.specs.declared.place.Span.{Span}
@@ -23,7 +23,12 @@ use Rattle.ruby_meaning.specs.declared.tree.ModuleForm.{ModuleForm}
 use Rattle.ruby_meaning.specs.declared.tree.ModuleForm.TheVariants as form
 use Rattle.ruby_meaning.specs.declared.tree.Node.{Node}
 use Rattle.ruby_meaning.specs.declared.tree.Params.{Params, roll-Params}
+use Rattle.ruby_meaning.specs.declared.tree.Rest.{Rest}
 use Rattle.ruby_meaning.specs.declared.tree.Rest.TheVariants as rest
+use Rattle.ruby_meaning.specs.declared.tree.Slot.{Slot}
+use Rattle.ruby_meaning.specs.declared.tree.Slot.TheVariants as slot
+use Rattle.ruby_meaning.specs.declared.production.Stage.{Stage}
+use Rattle.ruby_meaning.specs.declared.production.Stage.TheVariants as stage
 use Rattle.ruby_meaning.specs.Grammar.Seen.{Seen}
 
 -- ---- places
@@ -247,9 +252,6 @@ no_place = record { line = 0; col = 0 }
 -- no statement, with a span that the form sets which holds it
 abbrev pub nothing : Node
 nothing = make (kind.Seq []) (record { from = no_place; to = no_place }) no_place
-
-abbrev pub no_params : Params
-no_params = roll-Params (record { plain = []; optional = []; defaults = []; rest = rest.None; after = []; block = None })
 
 -- ---- operators
 
@@ -489,12 +491,60 @@ is_empty _ = false
 abbrev pub call_node : Option Node → List ℕ → Tail → Span → Pos → Node
 call_node receiver name tail s m = make (kind.Call receiver name (argument_list tail.0 tail.1) (or_else tail.1 (block_pass tail.0)) None) s m
 
+-- ---- parameters
+
+abbrev pub name_if : Option Seen → Option (List ℕ)
+name_if None = None
+name_if (Some t) = Some (units t)
+
+-- names or names in brackets, those with a default, "*" with a name or none, those behind, and "&"
+abbrev pub Parameters : Type 0
+Parameters = List (List Seen) × (List (Seen × Node) × (Option (Option Seen) × (List (List Seen) × Option Seen)))
+
+abbrev pub no_parameters : Parameters
+no_parameters = ([], ([], (None, ([], None))))
+
+-- a name, or names in brackets, before other parameters
+abbrev pub with_slot : Stage → List Seen → Parameters → Parameters
+with_slot stage.Plain names x = (names ∷ x.0, x.1)
+with_slot _ names x = (x.0, (x.1.0, (x.1.1.0, (names ∷ x.1.1.1.0, x.1.1.1.1))))
+
+-- a name with a default or without one
+abbrev pub with_name : Stage → Seen → Option Node → Parameters → Parameters
+with_name s name None x = with_slot s (name ∷ []) x
+with_name s name (Some value) x = (x.0, ((name, value) ∷ x.1.0, x.1.1))
+
+abbrev pub with_rest : Option Seen → Parameters → Parameters
+with_rest name x = (x.0, (x.1.0, (Some name, x.1.1.1)))
+
+abbrev pub block_name : Seen → Parameters
+block_name name = ([], ([], (None, ([], Some name))))
+
+abbrev pub slot_of : List Seen → Slot
+slot_of (name ∷ []) = slot.Name (units name)
+slot_of names = slot.Names (map units names)
+
+abbrev pub rest_of : Option (Option Seen) → Rest
+rest_of None = rest.None
+rest_of (Some None) = rest.Unnamed
+rest_of (Some (Some name)) = rest.Named (units name)
+
+abbrev pub params_of : Parameters → Params
+params_of x = roll-Params (record {
+  plain = map slot_of x.0;
+  optional = map (λ p. units p.0) (x.1.0);
+  defaults = map (λ p. p.1) (x.1.0);
+  rest = rest_of (x.1.1.0);
+  after = map slot_of (x.1.1.1.0);
+  block = name_if (x.1.1.1.1);
+})
+
 -- ---- a name at the front of a value
 
 abbrev pub is_name : List ℕ → List ℕ → Bool
 is_name name u = bytes_eq u name
 
--- `raise` alone in a rescue clause, and `block_given?`
+-- `raise` in a rescue clause, and `block_given?`, without arguments and block
 abbrev pub bare_node : Bool → List ℕ → Span → Pos → Node
 bare_node in_rescue u s m =
     if is_name (codes "block_given?") u then make (kind.Lit literal.BlockGiven) s m
@@ -503,7 +553,15 @@ bare_node in_rescue u s m =
 
 abbrev pub named_node : Bool → Seen → Tail → Node × ℕ
 named_node in_rescue t (None, None) = (bare_node in_rescue (units t) (span_of t) (start t), plain_or variable asking (units t))
+named_node in_rescue t (Some (([], ([], None)), close), None) = (bare_node in_rescue (units t) (tokens t close) (start t), other)
 named_node in_rescue t tail = (call_node None (units t) tail (to_end (span_of t) (end_of (span_of t) tail.0 tail.1)) (start t), other)
+
+abbrev pub is_lambda : Seen → Bool
+is_lambda t = is_name (codes "lambda") (units t)
+
+-- parameters and statements from a token to another
+abbrev pub lambda_of : Parameters → Node × ℕ → Span → Node
+lambda_of params body s = make (kind.Lambda (params_of params) (filled s body)) s s.from
 
 abbrev pub constant_node : Seen → Tail → Node × ℕ
 constant_node t (None, None) = (make (kind.ConstGet base.Here (units t)) (span_of t) (start t), variable)
@@ -709,10 +767,6 @@ abbrev pub form_place : Seen → Option Seen × Option Node → Pos
 form_place t (Some name, superclass) = start name
 form_place t (None, n) = start t
 
-abbrev pub name_if : Option Seen → Option (List ℕ)
-name_if None = None
-name_if (Some t) = Some (units t)
-
 -- the place of the name, or of the `rescue`
 abbrev pub rescue_place : Seen → Option Seen → Pos
 rescue_place t None = start t
@@ -722,6 +776,69 @@ rescue_place t (Some name) = start name
 abbrev pub is_variable_name : Seen → Bool
 is_variable_name t = is_plain_name t.token.kind
 
--- a body with clauses; the form that holds it sets its span
-abbrev pub with_handlers : Seen × (Node × ℕ) → List Node × (Option Node × Option Node) → Seen × (Node × ℕ)
-with_handlers l x = (l.0, (make (kind.Begin (filled (span_of l.0) l.1) x.0 (x.1.0) (x.1.1)) (span_of l.0) (start l.0), 0))
+-- ---- bodies
+
+-- rescue clauses, an `else` part and an `ensure` part, each with its keyword
+abbrev pub Handlers : Type 0
+Handlers = List Node × (Option (Seen × (Node × ℕ)) × Option (Seen × (Node × ℕ)))
+
+abbrev pub handlers_from : Pos → Handlers → Pos
+handlers_from p (clause ∷ clauses, parts) = (clause.span).from
+handlers_from p ([], (Some x, ensure)) = start x.0
+handlers_from p ([], (None, Some x)) = start x.0
+handlers_from p ([], (None, None)) = p
+
+abbrev pub handlers_end : Span → Handlers → Span
+handlers_end s (clauses, (otherwise, Some x)) = last_of x.0 x.1
+handlers_end s (clauses, (Some x, None)) = last_of x.0 x.1
+handlers_end s (clauses, (None, None)) = last_span s clauses
+
+-- from the first statement or else the first keyword
+abbrev pub body_from : Node × ℕ → Handlers → Pos
+body_from (n, zero) h = (n.span).from
+body_from (n, suc k) h = handlers_from (n.span).from h
+
+abbrev pub body_span : Node × ℕ → Handlers → Span
+body_span x h = record { from = body_from x h; to = (handlers_end (x.0).span h).to }
+
+abbrev pub part_if : Span → Option (Seen × (Node × ℕ)) → Option Node
+part_if s None = None
+part_if s (Some x) = Some (filled s x.1)
+
+abbrev pub begin_node : Span → Node × ℕ → Handlers → Node
+begin_node s x h = make (kind.Begin (filled s x) h.0 (part_if s (h.1.0)) (part_if s (h.1.1))) s s.from
+
+-- statements behind a token, with clauses
+abbrev pub with_handlers : Seen × (Node × ℕ) → Handlers → Seen × (Node × ℕ)
+with_handlers l h = (l.0, (begin_node (body_span l.1 h) l.1 h, 0))
+
+-- ---- methods
+
+-- a `=` directly behind a name
+abbrev pub is_attached : Seen → Bool
+is_attached t = not t.token.blank_before
+
+abbrev pub is_constant : TokenKind → Bool
+is_constant (token.Const u) = true
+is_constant _ = false
+
+-- `self` or a constant
+abbrev pub names_receiver : Seen → Bool
+names_receiver t = is_constant t.token.kind || is_name (codes "self") (units t)
+
+-- the name of a method, behind a receiver or none
+abbrev pub DefName : Type 0
+DefName = Option Node × (Seen × Option Seen)
+
+abbrev pub is_receiver : DefName → Bool
+is_receiver (None, (t, None)) = names_receiver t
+is_receiver _ = false
+
+abbrev pub receiver_node : Seen → Node
+receiver_node t = make (if is_constant t.token.kind then kind.ConstGet base.Here (units t) else kind.SelfRef) (span_of t) (start t)
+
+abbrev pub on_receiver : DefName → Seen × Option Seen → DefName
+on_receiver l name = (Some (receiver_node (l.1.0)), name)
+
+abbrev pub def_node : DefName → Parameters → Node × ℕ → Span → Node
+def_node x params body s = make (kind.Def x.0 (full_name x.1) (params_of params) (filled s body)) s (start (x.1.0))

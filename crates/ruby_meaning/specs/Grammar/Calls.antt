@@ -1,22 +1,25 @@
 -- Brackets and blocks of calls.
 use Rattle.std.specs.Prelude.{ℕ, Bool, true, false, Some, None, is_some}
-use Rattle.grammar.specs.Rules.{Sort, leaf, tree, marked, pair, list, optional, token, absent, sequence, choice, view, node, many, bind, named}
-use Rattle.grammar.specs.CommonRules.{◌or◌, behind, maybe}
+use Rattle.grammar.specs.Rules.{Sort, leaf, tree, marked, pair, optional, token, absent, sequence, choice, view, node, bind, named}
+use Rattle.grammar.specs.CommonRules.{◌or◌, behind, before, maybe}
 use Rattle.ruby_meaning.specs.declared.production.Production.TheVariants as p
 use Rattle.ruby_meaning.specs.declared.production.Sign.TheVariants as sign
 use Rattle.ruby_meaning.specs.declared.token.Mark.TheVariants as mark
 use Rattle.ruby_meaning.specs.declared.token.Word.TheVariants as word
 use Rattle.ruby_meaning.specs.declared.tree.Kind.TheVariants as kind
+use Rattle.ruby_meaning.specs.declared.tree.Node.{Node}
+use Rattle.ruby_meaning.specs.Grammar.Seen.{Seen}
 use Rattle.ruby_meaning.specs.Grammar.Classes.{a, op, key}
-use Rattle.ruby_meaning.specs.Grammar.Names.{args_sort, R, part}
-use Rattle.ruby_meaning.specs.Grammar.Actions.{make, start, tokens, filled, no_args, no_params, block_pass}
+use Rattle.ruby_meaning.specs.Grammar.Names.{args_sort, params_sort, R, part}
+use Rattle.ruby_meaning.specs.Grammar.Actions.{make, start, tokens, filled, no_args, no_parameters, params_of, block_pass, Parameters}
+use Rattle.ruby_meaning.specs.Grammar.Parameters.{behind_newlines, some_parameters}
 
--- Newlines may stand before a closing bracket.
-unfoldable pub newlines : R (list leaf)
-newlines = many (token (a sign.Newline))
+-- a block: its opening token, parameters, statements and closing token
+abbrev pub block_sort : Sort
+block_sort = pair leaf (pair params_sort (pair (marked tree) leaf))
 
-unfoldable pub behind_newlines : R leaf → R leaf
-behind_newlines r = view {s = pair (list leaf) leaf} (λ x. x.1) (sequence newlines r)
+abbrev pub block_node : Seen × (Parameters × ((Node × ℕ) × Seen)) → Node
+block_node x = make (kind.Block (params_of (x.1.0)) (filled (tokens x.0 (x.1.1.1)) (x.1.1.0))) (tokens x.0 (x.1.1.1)) (start x.0)
 
 -- the arguments in brackets with the closing one, and a block
 abbrev pub tail_sort : Sort
@@ -32,14 +35,23 @@ module _ (in_rescue : Bool) where
   paren blocks = behind (a sign.CallOpen)
       (sequence (choice (named (part (p.CommandArguments blocks) true in_rescue)) (absent no_args)) (behind_newlines (token (op mark.ParenClose))))
 
-  -- block : ("{" | "do") stmts ("}" | "end")
+  -- ["|" [params] "|"]
+  unfoldable pub block_parameters : R params_sort
+  block_parameters = choice (behind (op mark.Pipe) (before (some_parameters in_rescue true) (op mark.Pipe))) (absent no_parameters)
+
+  -- block : ("{" | "do") ["|" [params] "|"] stmts ("}" | "end"), as parts
+  unfoldable pub brace_parts : R block_sort
+  brace_parts = sequence (token (op mark.BraceOpen)) (sequence block_parameters (sequence (named (part p.Statements true in_rescue)) (token (op mark.BraceClose))))
+
+  unfoldable pub do_parts : R block_sort
+  do_parts = sequence (token (key word.Do)) (sequence block_parameters (sequence (named (part p.Statements true in_rescue)) (token (key word.End))))
+
+  -- block
   unfoldable pub brace_block : R tree
-  brace_block = node {s = pair leaf (pair (marked tree) leaf)} (λ x. make (kind.Block no_params (filled (tokens x.0 x.1.1) x.1.0)) (tokens x.0 x.1.1) (start x.0))
-      (sequence (token (op mark.BraceOpen)) (sequence (named (part p.Statements true in_rescue)) (token (op mark.BraceClose))))
+  brace_block = node {s = block_sort} block_node brace_parts
 
   unfoldable pub do_block : R tree
-  do_block = node {s = pair leaf (pair (marked tree) leaf)} (λ x. make (kind.Block no_params (filled (tokens x.0 x.1.1) x.1.0)) (tokens x.0 x.1.1) (start x.0))
-      (sequence (token (key word.Do)) (sequence (named (part p.Statements true in_rescue)) (token (key word.End))))
+  do_block = node {s = block_sort} block_node do_parts
 
   unfoldable pub block : Bool → R tree
   block true = choice brace_block do_block

@@ -9,11 +9,22 @@ use Rattle.ruby_meaning.specs.declared.token.Word.TheVariants as word
 use Rattle.ruby_meaning.specs.declared.tree.Kind.TheVariants as kind
 use Rattle.ruby_meaning.specs.declared.tree.ModuleForm.TheVariants as form
 use Rattle.ruby_meaning.specs.Grammar.Classes.{a, op, key}
-use Rattle.ruby_meaning.specs.Grammar.Names.{R, part}
-use Rattle.ruby_meaning.specs.Grammar.Actions.{make, start, span_of, tokens, to_end, other, filled, nothing, last_of, last_then, elsif_span, replaced, form_of, form_name, form_place, units, name_if, rescue_place, is_variable_name, with_handlers, begun}
+use Rattle.ruby_meaning.specs.Grammar.Names.{params_sort, R, part}
+use Rattle.ruby_meaning.specs.Grammar.Actions.{make, start, span_of, tokens, to_end, other, filled, nothing, last_of, last_then, elsif_span, replaced, form_of, form_name, form_place, units, name_if, rescue_place, is_variable_name, is_attached, with_handlers, begun, is_receiver, on_receiver, def_node}
+use Rattle.ruby_meaning.specs.Grammar.Parameters.{behind_newlines, some_parameters}
 
 abbrev pub separators : ℕ → Bool
 separators = a sign.Newline or op mark.Semicolon
+
+-- the operators that name methods
+abbrev pub operator_names : ℕ → Bool
+operator_names = op mark.Plus or op mark.Minus or op mark.Star or op mark.Slash or op mark.Percent or op mark.Power
+    or op mark.Negate or op mark.Equal or op mark.Less or op mark.LessEqual or op mark.Greater or op mark.GreaterEqual
+    or op mark.Compare or op mark.TripleEqual or op mark.ShiftLeft or op mark.Index or op mark.IndexSet
+
+-- mname : a name, which a `=` may follow directly, or an operator
+unfoldable pub method_name : R (pair leaf (optional leaf))
+method_name = choice (sequence (token (a sign.Name or a sign.Const)) (maybe (token_where (op mark.Assign) is_attached))) (sequence (token operator_names) (absent None))
 
 -- then : sep, "then" or both; its last token
 unfoldable pub then_sign : R leaf
@@ -97,25 +108,33 @@ module _ (in_rescue : Bool) where
       (sequence (maybe (behind (op mark.FatArrow) (token_where (a sign.Name) is_variable_name)))
       (sequence then_sign (named (part p.Statements true true))))))
 
-  unfoldable pub body_else : R tree
-  body_else = view {s = pair leaf (marked tree)} (λ x. filled (span_of x.0) x.1) (sequence (token (key word.Else)) statements_here)
+  -- a keyword and the statements behind it
+  abbrev pub keyword_part : Sort
+  keyword_part = pair leaf (marked tree)
 
-  unfoldable pub body_ensure : R tree
-  body_ensure = view {s = pair leaf (marked tree)} (λ x. filled (span_of x.0) x.1) (sequence (token (key word.Ensure)) statements_here)
+  unfoldable pub body_else : R keyword_part
+  body_else = sequence (token (key word.Else)) statements_here
+
+  unfoldable pub body_ensure : R keyword_part
+  body_ensure = sequence (token (key word.Ensure)) statements_here
 
   abbrev pub handlers_sort : Sort
-  handlers_sort = pair (list tree) (pair (optional tree) (optional tree))
+  handlers_sort = pair (list tree) (pair (optional keyword_part) (optional keyword_part))
 
   -- what stands behind the first statements of a body: one part at least
   unfoldable pub handlers : R handlers_sort
-  handlers = choice (view {s = pair (pair tree (list tree)) (pair (optional tree) (optional tree))} (λ x. (x.0.0 ∷ x.0.1, x.1)) (sequence (sequence rescue_clause (many rescue_clause)) (sequence (maybe body_else) (maybe body_ensure))))
-      (choice (view {s = pair tree (optional tree)} (λ x. ([], (Some x.0, x.1))) (sequence body_else (maybe body_ensure)))
-      (view {s = tree} (λ x. ([], (None, Some x))) body_ensure))
+  handlers = choice (view {s = pair (pair tree (list tree)) (pair (optional keyword_part) (optional keyword_part))} (λ x. (x.0.0 ∷ x.0.1, x.1)) (sequence (sequence rescue_clause (many rescue_clause)) (sequence (maybe body_else) (maybe body_ensure))))
+      (choice (view {s = pair keyword_part (optional keyword_part)} (λ x. ([], (Some x.0, x.1))) (sequence body_else (maybe body_ensure)))
+      (view {s = keyword_part} (λ x. ([], (None, Some x))) body_ensure))
 
-  -- "begin" body "end", where body : stmts ("rescue" .. then stmts)* ["else" stmts] ["ensure" stmts]
+  -- body : stmts ("rescue" .. then stmts)* ["else" stmts] ["ensure" stmts], behind a token
+  unfoldable pub body_behind : R leaf → R (pair leaf (marked tree))
+  body_behind opening = suffix {s = pair leaf (marked tree)} {r = handlers_sort} 1 (sequence opening statements_here) (λ l. true) handlers with_handlers
+
+  -- "begin" body "end"
   unfoldable pub begin_value : R (marked tree)
   begin_value = view {s = pair (pair leaf (marked tree)) leaf} (λ x. (replaced (tokens (x.0.0) x.1) (start (x.0.0)) (x.0.1.0), begun))
-      (sequence (suffix {s = pair leaf (marked tree)} {r = handlers_sort} 1 (sequence (token (key word.Begin)) statements_here) (λ l. true) handlers with_handlers) (token (key word.End)))
+      (sequence (body_behind (token (key word.Begin))) (token (key word.End)))
 
 -- sep stmts "end"
 unfoldable pub module_body : R (pair (marked tree) leaf)
@@ -133,6 +152,30 @@ module_value = node {s = pair leaf (pair leaf (pair (marked tree) leaf))}
     (λ x. (make (kind.ModuleDef form.Module (units (x.1.0)) (filled (tokens x.0 (x.1.1.1)) (x.1.1.0))) (tokens x.0 (x.1.1.1)) (start (x.1.0)), other))
     (sequence (token (key word.Module)) (sequence (token (a sign.Const)) module_body))
 
+-- [("self"|CONST) "."] mname
+abbrev pub def_name_sort : Sort
+def_name_sort = pair (optional tree) (pair leaf (optional leaf))
+
+unfoldable pub def_name : R def_name_sort
+def_name = suffix {s = def_name_sort} {r = pair leaf (optional leaf)} 1 (view {s = pair leaf (optional leaf)} (λ x. (None, x)) method_name) is_receiver (behind (op mark.Dot) method_name) on_receiver
+
+-- parameters, the body behind a token, and "end"
+abbrev pub def_rest : Sort
+def_rest = pair params_sort (pair (pair leaf (marked tree)) leaf)
+
+-- "(" [params] ")" body "end"
+unfoldable pub def_in_brackets : R def_rest
+def_in_brackets = behind (a sign.CallOpen or op mark.ParenOpen) (sequence (some_parameters false false) (sequence (body_behind false (behind_newlines (token (op mark.ParenClose)))) (token (key word.End))))
+
+-- [params] sep body "end"
+unfoldable pub def_plain : R def_rest
+def_plain = sequence (some_parameters false false) (sequence (body_behind false (token separators)) (token (key word.End)))
+
+-- "def" [("self"|CONST) "."] mname "(" [params] ")" body "end" | "def" [("self"|CONST) "."] mname [params] sep body "end"
+unfoldable pub def_value : R (marked tree)
+def_value = node {s = pair leaf (pair def_name_sort def_rest)} (λ x. (def_node (x.1.0) (x.1.1.0) (x.1.1.1.0.1) (tokens x.0 (x.1.1.1.1)), other))
+    (sequence (token (key word.Def)) (sequence def_name (choice def_in_brackets def_plain)))
+
 -- a form from a keyword to its "end"
 unfoldable pub keyword_form : Bool → R (marked tree)
-keyword_form in_rescue = choice (if_value in_rescue) (choice (unless_value in_rescue) (choice (while_value in_rescue) (choice (until_value in_rescue) (choice (case_value in_rescue) (choice (class_value in_rescue) (choice module_value (begin_value in_rescue)))))))
+keyword_form in_rescue = choice (if_value in_rescue) (choice (unless_value in_rescue) (choice (while_value in_rescue) (choice (until_value in_rescue) (choice (case_value in_rescue) (choice (class_value in_rescue) (choice module_value (choice def_value (begin_value in_rescue))))))))

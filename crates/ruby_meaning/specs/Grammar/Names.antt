@@ -1,6 +1,6 @@
 -- The names of productions, and what each gives.
 use Rattle.std.specs.Prelude.{Bool}
-use Rattle.grammar.specs.Rules.{Sort, tree, marked, pair, list, optional, under, Rule}
+use Rattle.grammar.specs.Rules.{Sort, leaf, tree, marked, pair, list, optional, under, Rule}
 use Rattle.ruby_meaning.specs.declared.production.Part.{Part}
 use Rattle.ruby_meaning.specs.declared.production.Production.{Production}
 use Rattle.ruby_meaning.specs.declared.production.Production.TheVariants as p
@@ -14,6 +14,10 @@ pairs_sort = list (under (pair tree tree))
 abbrev pub args_sort : Sort
 args_sort = pair (list tree) (pair pairs_sort (optional tree))
 
+-- parameters: names, or names in brackets; those with a default; "*" with a name or none; those behind; "&"
+abbrev pub params_sort : Sort
+params_sort = pair (list (list leaf)) (pair (list (pair leaf tree)) (pair (optional (optional leaf)) (pair (list (list leaf)) (optional leaf))))
+
 -- A value with a number has with it how it was written.
 abbrev pub sort_of : Production → Sort
 sort_of p.Statements = marked tree
@@ -23,6 +27,7 @@ sort_of p.NestedValue = marked tree
 sort_of (p.Arguments blocks) = args_sort
 sort_of (p.CommandArguments blocks) = args_sort
 sort_of (p.MorePairs blocks) = args_sort
+sort_of (p.Parameters stage brackets) = params_sort
 sort_of _ = tree
 
 abbrev pub sorts : Part → Sort

@@ -1,29 +1,16 @@
 -- Statements.
-use Rattle.std.specs.Prelude.{ℕ, Bool, true, false, not, ◌∷◌}
-use Rattle.grammar.specs.Rules.{leaf, tree, marked, pair, list, optional, token, token_where, sequence, choice, view, node, many, suffixes, needs, named}
+use Rattle.std.specs.Prelude.{Bool, true, false, ◌∷◌}
+use Rattle.grammar.specs.Rules.{leaf, tree, marked, pair, list, optional, token, sequence, choice, view, node, many, suffixes, needs, named}
 use Rattle.grammar.specs.CommonRules.{◌or◌, behind, maybe, separated}
 use Rattle.ruby_meaning.specs.declared.production.Production.TheVariants as p
-use Rattle.ruby_meaning.specs.declared.production.Sign.TheVariants as sign
 use Rattle.ruby_meaning.specs.declared.token.Mark.TheVariants as mark
 use Rattle.ruby_meaning.specs.declared.token.Word.TheVariants as word
 use Rattle.ruby_meaning.specs.declared.tree.Kind.TheVariants as kind
-use Rattle.ruby_meaning.specs.Grammar.Seen.{Seen}
-use Rattle.ruby_meaning.specs.Grammar.Classes.{a, op, key}
+use Rattle.ruby_meaning.specs.Grammar.Classes.{op, key}
 use Rattle.ruby_meaning.specs.Grammar.Names.{R, part}
 use Rattle.ruby_meaning.specs.Grammar.Actions.{make, start, span_of, from_token, to_end, other, full_name, full_names, name_span, names_span, joined, modified, if_behind, unless_behind, loop_behind, until_condition, statements, sequence_of}
-use Rattle.ruby_meaning.specs.Grammar.Primaries.{methods}
+use Rattle.ruby_meaning.specs.Grammar.Definitions.{separators, method_name}
 use Rattle.ruby_meaning.specs.Grammar.Expressions.{command_level}
-
-abbrev pub separators : ℕ → Bool
-separators = a sign.Newline or op mark.Semicolon
-
--- a `=` directly behind a name
-abbrev pub is_attached : Seen → Bool
-is_attached t = not t.token.blank_before
-
--- mname
-unfoldable pub method_name : R (pair leaf (optional leaf))
-method_name = sequence (token methods) (maybe (token_where (op mark.Assign) is_attached))
 
 module _ (takes_do : Bool) (in_rescue : Bool) where
   -- expr : nexpr (("and"|"or") nexpr)*      nexpr : "not" nexpr | cmd

@@ -14,9 +14,10 @@ use Rattle.ruby_meaning.specs.Grammar.Seen.{Seen}
 use Rattle.ruby_meaning.specs.Grammar.Classes.{size, code_of, a, op, marked_op, key}
 use Rattle.ruby_meaning.specs.Grammar.Names.{sort_of, sorts, R}
 use Rattle.ruby_meaning.specs.Grammar.Actions.{commanded}
-use Rattle.ruby_meaning.specs.Grammar.Definitions.{otherwise}
+use Rattle.ruby_meaning.specs.Grammar.Definitions.{separators, otherwise}
+use Rattle.ruby_meaning.specs.Grammar.Parameters.{parameters}
 use Rattle.ruby_meaning.specs.Grammar.Expressions.{value_of, updates, begins_marked, begins_plain, not_level, power_level, minus_level, product_level, sum_level, shift_level, comparison_level, equality_level, and_level, or_level, ternary, argument, one_value, nested_value, right_side, cargs, arguments, more_pairs}
-use Rattle.ruby_meaning.specs.Grammar.Statements.{separators, not_expression, expression, statement, statement_list}
+use Rattle.ruby_meaning.specs.Grammar.Statements.{not_expression, expression, statement, statement_list}
 
 abbrev pub rule_of : (k : Production) → Bool → Bool → R (sort_of k)
 rule_of p.Statements d r = statement_list r
@@ -42,6 +43,7 @@ rule_of p.Otherwise d r = otherwise r
 rule_of (p.CommandArguments blocks) d r = cargs d r blocks
 rule_of (p.Arguments blocks) d r = arguments d r blocks
 rule_of (p.MorePairs blocks) d r = more_pairs d r blocks
+rule_of (p.Parameters stage brackets) d r = parameters r brackets stage
 
 -- ---- what begins a production
 
@@ -52,7 +54,7 @@ begins_simple_value = a sign.Name or a sign.Const or a sign.Ivar or a sign.Gvar 
     or marked_op mark.WordsRound or marked_op mark.WordsSquare or marked_op mark.SymbolsRound or marked_op mark.SymbolsSquare
     or op mark.ColonColon or marked_op mark.ColonColon or op mark.ParenOpen or marked_op mark.ParenOpen
     or op mark.BracketOpen or marked_op mark.BracketOpen or op mark.BraceOpen or op mark.Bang or op mark.Minus or marked_op mark.Minus
-    or key word.Case or key word.Class or key word.Module or key word.Begin
+    or op mark.Arrow or key word.Case or key word.Class or key word.Module or key word.Def or key word.Begin
 
 abbrev pub begins_value : ℕ → Bool
 begins_value = begins_simple_value or key word.If or key word.Unless or key word.While or key word.Until
@@ -69,6 +71,10 @@ begins_statement = begins_expression or key word.Alias or key word.Undef
 abbrev pub begins_argument : ℕ → Bool
 begins_argument = begins_value or begins_splat or a sign.Label or op mark.Ampersand or marked_op mark.Ampersand
 
+abbrev pub begins_parameter : Bool → ℕ → Bool
+begins_parameter true = a sign.Name or op mark.Star or op mark.Ampersand or op mark.ParenOpen
+begins_parameter false = a sign.Name or op mark.Star or op mark.Ampersand
+
 abbrev pub begins : Production → ℕ → Bool
 begins p.Statements = begins_statement or separators
 begins p.Statement = begins_statement
@@ -80,6 +86,7 @@ begins p.Otherwise = key word.Elsif or key word.Else
 begins (p.CommandArguments blocks) = begins_argument
 begins (p.Arguments blocks) = begins_argument
 begins (p.MorePairs blocks) = begins_argument
+begins (p.Parameters stage brackets) = begins_parameter brackets
 begins _ = begins_value
 
 -- ---- what can go on behind a whole one
@@ -139,6 +146,10 @@ abbrev pub behind_arguments : Bool → ℕ → Bool
 behind_arguments true = behind_command true or begins_argument
 behind_arguments false = behind_argument false or op mark.Comma or op mark.FatArrow
 
+-- behind a "*" a name may stand
+abbrev pub behind_parameters : ℕ → Bool
+behind_parameters = behind_argument true or op mark.Comma or a sign.Name
+
 abbrev pub continues : Production → Bool → ℕ → Bool
 continues p.Statements d = behind_statement or begins_statement or separators
 continues p.Statement d = behind_statement
@@ -163,6 +174,7 @@ continues p.NotOperand d = behind_value d
 continues (p.CommandArguments blocks) d = behind_arguments d or begins_command
 continues (p.Arguments blocks) d = behind_arguments d
 continues (p.MorePairs blocks) d = behind_arguments d
+continues (p.Parameters stage brackets) d = behind_parameters
 
 -- A comma goes on behind a command alone.
 abbrev pub value_goes_on : ℕ → ℕ → Bool
