@@ -44,7 +44,9 @@ module _ {T N K : Type 0} {sorts : K → Sort} (G : Grammar T N K sorts) where
   continues_of h (view f r) a t (b, e, x) = continues_of h r b t x
   continues_of h (node f r) a t (b, e, x) = continues_of h r b t x
   continues_of h (many r) a t x = x
-  continues_of h (suffixes levels r q f) a t x = x
+  continues_of h (suffixes levels r q f) a t (inl x) = or_left (continues G r t) _ (continues_of h r a t x)
+  continues_of h (suffixes levels r q f) a t (inr (inl (l, y, e, x))) = or_right (continues G r t) _ (or_left (continues G q t) _ (continues_of h q y t x))
+  continues_of h (suffixes levels r q f) a t (inr (inr x)) = or_right (continues G r t) _ (or_right (continues G q t) _ x)
   continues_of h (suffix levels r ok q f) a t (inl x) = or_left (continues G r t) _ (continues_of h r a t x)
   continues_of h (suffix levels r ok q f) a t (inr (inl (l, y, e, k, x))) = or_right (continues G r t) _ (or_left (continues G q t) _ (continues_of h q y t x))
   continues_of h (suffix levels r ok q f) a t (inr (inr x)) = or_right (continues G r t) _ (or_right (continues G q t) _ x.1)

@@ -1,9 +1,9 @@
 -- A rule with parts behind it, each of which makes some levels: there are such, or the rule stands alone.
-use Rattle.std.proofs.Common.{◌≡◌, ℕ, zero, suc, ◌+◌, ◌≤◌, ◌<◌, max, Bool, true, false, ◌&&◌, ◌||◌, List, [], ◌∷◌, ◌++◌, Option, Some, None, Result, Ok, ◌⊎◌, inl, inr, sym, ap, subst, arith}
+use Rattle.std.proofs.Common.{◌≡◌, ℕ, zero, suc, ◌+◌, ◌≤◌, ◌<◌, max, Bool, true, false, ◌&&◌, List, [], ◌∷◌, ◌++◌, Option, Some, None, Result, Ok, ◌⊎◌, inl, inr, sym, ap, subst, arith}
 use Rattle.std.specs.Prelude.{nat_le}
 use Rattle.grammar.specs.Forms.{ChainSpells, SuffixesSpell, BehindSuffixes, SuffixesFront, SuffixSpells, BehindSuffix, SuffixFront}
-use Rattle.grammar.specs.FormReaders.{By, Apart, Reads, under, read_suffixes_at, read_suffix_at}
-use Rattle.grammar.proofs.Lists.{append_empty, or_left, and_split, and_both, some_inj, none_some, off_less}
+use Rattle.grammar.specs.FormReaders.{Reads, under, read_suffixes_at, read_suffix_at}
+use Rattle.grammar.proofs.Lists.{append_empty, and_split, and_both, some_inj, none_some, off_less}
 use Rattle.grammar.proofs.Weakening.{weaken}
 use Rattle.grammar.proofs.ReadsSuffixes.{suffixes_reads}
 use Rattle.grammar.proofs.ReadsSuffix.{suffix_reads}
@@ -25,12 +25,12 @@ fits_down : (m n : ℕ) → nat_le m n ≡ true → m ≤ n
 fits_down m n h = search (arith, h)
 
 module _ {T A S : Type 0} {W : A → List T → Type 0} {F : List T → Type 0} {d : A → ℕ} {V : S → List T → Type 0} {G : ℕ → List T → Type 0} {e : S → ℕ}
-    {first1 cont1 first2 cont2 : T → Bool} {p : List T → Result (A × List T) (List T)} {q : ℕ → List T → Result (S × List T) (List T)}
-    (levels B : ℕ) (f : A → S → A) (R : Reads W F d B first1 (By cont1) false p) (Q : (c : ℕ) → Reads V (G c) e c first2 (By cont2) false (q c)) where
-  abbrev pub more : T → Bool
-  more t = cont1 t || (cont2 t || first2 t)
+    {first1 first2 : T → Bool} {cont1 : A → T → Type 0} {cont2 : S → T → Type 0} {p : List T → Result (A × List T) (List T)} {q : ℕ → List T → Result (S × List T) (List T)}
+    (levels B : ℕ) (f : A → S → A) (R : Reads W F d B first1 cont1 false p) (Q : (c : ℕ) → Reads V (G c) e c first2 cont2 false (q c)) where
+  abbrev pub suffixes_go_on : A → T → Type 0
+  suffixes_go_on x t = cont1 x t ⊎ (((l : A) × (s : S) × (x ≡ f l s) × cont2 s t) ⊎ (first2 t ≡ true))
 
-  module _ (apart1 : Apart cont1 first2) (apart2 : Apart cont2 first2) (over : (l : A) (s : S) → d (f l s) ≡ levels + max (d l) (e s)) where
+  module _ (apart1 : (l : A) (t : T) → cont1 l t → first2 t ≡ true → ⊥) (apart2 : (s : S) (t : T) → cont2 s t → first2 t ≡ true → ⊥) (over : (l : A) (s : S) → d (f l s) ≡ levels + max (d l) (e s)) where
     abbrev Front : List T → Type 0
     Front = SuffixesFront W V f d levels B F G
 
@@ -46,11 +46,11 @@ module _ {T A S : Type 0} {W : A → List T → Type 0} {F : List T → Type 0} 
     token zero x h = R.empty x h
     token (suc k) x (l, s, v, w, e1, e2, h, g) = (Q (e s)).empty s (subst (V s) ((append_empty v w e2).1) g)
 
-    few_levels : B < levels → Reads (SuffixesSpell W V f) Front d B first1 (By more) false p
+    few_levels : B < levels → Reads (SuffixesSpell W V f) Front d B first1 suffixes_go_on false p
     few_levels few = record {
       sound = λ ts a rest h. let s = R.sound ts a rest h in (s.0, s.1, (0, s.2), s.3);
       refusal = λ ts rest h. let s = R.refusal ts rest h in (s.0, s.1, inl s.2);
-      complete = λ a u rest h le off. R.complete a u rest (alone few h.0 a u h.1 le) le (off_less (λ t k. or_left (cont1 t) _ k) rest off);
+      complete = λ a u rest h le off. R.complete a u rest (alone few h.0 a u h.1 le) le (off_less (λ t k. inl k) rest off);
       reach = λ u v h. R.reach u v (no_node few u h);
       starts = λ t u h. R.starts t u (no_node few (t ∷ u) h);
       holds = λ a u h le. inl (R.holds a u (alone few h.0 a u h.1 le) le);
@@ -59,7 +59,7 @@ module _ {T A S : Type 0} {W : A → List T → Type 0} {F : List T → Type 0} 
       empty = λ a h. token h.0 a h.1;
     }
 
-    enough : (c : ℕ) → B ≡ levels + c → Reads (SuffixesSpell W V f) Front d B first1 (By more) false (read_suffixes_at first2 d f p q (Some c))
+    enough : (c : ℕ) → B ≡ levels + c → Reads (SuffixesSpell W V f) Front d B first1 suffixes_go_on false (read_suffixes_at first2 d f p q (Some c))
     enough c lv = weaken (suffixes_reads B levels lv f (λ l. nat_le (d l) c) R (Q c) apart1 apart2 (λ l. fits_down _ _) (λ l. fits_up _ _) over)
         (λ a u x. x) (λ a u x. x) up down (λ t k. k) (λ a t k. k) (λ k. k)
       where
@@ -71,7 +71,7 @@ module _ {T A S : Type 0} {W : A → List T → Type 0} {F : List T → Type 0} 
         down u (inl h) = inl h
         down u (inr (c', lv', h)) = let same : c' ≡ c = omega (arith, lv, lv') in inr (subst (λ z. BehindSuffixes W V f d z (G z) u) same h)
 
-    pub suffixes_reads_at : (o : Option ℕ) → under levels B ≡ o → Reads (SuffixesSpell W V f) Front d B first1 (By more) false (read_suffixes_at first2 d f p q o)
+    pub suffixes_reads_at : (o : Option ℕ) → under levels B ≡ o → Reads (SuffixesSpell W V f) Front d B first1 suffixes_go_on false (read_suffixes_at first2 d f p q o)
     suffixes_reads_at None e = few_levels (under_none levels B e)
     suffixes_reads_at (Some c) e = enough c (under_some levels B c e)
 

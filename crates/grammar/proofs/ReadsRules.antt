@@ -138,8 +138,9 @@ module _ {T N K : Type 0} {sorts : K → Sort} (G : Grammar T N K sorts) where
           view_reads f (deep T G.depth r') (suc b) (reads r b c.1) (λ a le. omega (arith, c.0 a, le)) (λ a le. omega (arith, c.0 a, le))
       reads (many r) b c = many_reads (classes r b false (some_of r b c.1 (reads r b c.2))) (apart G S.within (continues G r) (first G r) c.0)
       reads (suffixes {s = s} {r = r'} levels r q f) b c =
-          suffixes_reads_at levels b f (classes r b false (some_of r b c.2 (reads r b c.5))) (λ l. classes q l false (some_of q l c.3 (reads q l c.6)))
-          (apart G S.within (continues G r) (first G q) c.0) (apart G S.within (continues G q) (first G q) c.1) c.4 (under levels b) refl
+          suffixes_reads_at levels b f (some_of r b c.2 (reads r b c.5)) (λ l. some_of q l c.3 (reads q l c.6))
+          (λ l t i j. apart G S.within (continues G r) (first G q) c.0 t (continues_of G S.bounded r l (G.code t) i) j)
+          (λ x t i j. apart G S.within (continues G q) (first G q) c.1 t (continues_of G S.bounded q x (G.code t) i) j) c.4 (under levels b) refl
       reads (suffix {s = s} {r = r'} levels r ok q f) b c =
           suffix_reads_at levels b f (some_of r b c.1 (reads r b c.4)) (λ l. some_of q l c.2 (reads q l c.5)) ok
           (λ l u t v h le k here. (some_of r b c.1 (reads r b c.4)).complete l u (t ∷ v) h le (λ i. elim c.0 [

@@ -1,19 +1,27 @@
 -- A rule with parts behind it.
-use Rattle.std.proofs.Common.{◌≡◌, ℕ, zero, suc, ◌+◌, ◌≤◌, max, Bool, true, false, ◌&&◌, ◌||◌, List, [], ◌∷◌, ◌++◌, length, Result, Ok, Err, ◌⊎◌, inl, inr, refl, sym, ap, ◌∙◌, subst, append_assoc, append-nil, length-append, arith, le_refl, le_trans, true≢false}
+use Rattle.std.proofs.Common.{◌≡◌, ℕ, zero, suc, ◌+◌, ◌≤◌, max, Bool, true, false, ◌&&◌, List, [], ◌∷◌, ◌++◌, length, Result, Ok, Err, ◌⊎◌, inl, inr, refl, sym, ap, ◌∙◌, subst, append_assoc, append-nil, length-append, arith, le_refl, le_trans, true≢false}
 use Rattle.std.specs.Prelude.{if◌then◌else◌}
 use Rattle.grammar.specs.Forms.{ChainSpells, SuffixesSpell, BehindSuffixes}
-use Rattle.grammar.specs.FormReaders.{NextNotIn, By, Apart, remaining, Reads, and_then, read_more_suffixes, read_suffixes}
-use Rattle.grammar.proofs.Lists.{ok_err, ok_inj, heads, bind_ok, bind_err, cut, append_empty, or_left, or_right, and_split, and_both, cases_if, if_true, if_false, le_of_eq}
+use Rattle.grammar.specs.FormReaders.{NextNot, NextNotIn, remaining, Reads, and_then, read_more_suffixes, read_suffixes}
+use Rattle.grammar.proofs.Lists.{ok_err, ok_inj, heads, bind_ok, bind_err, cut, append_empty, and_split, and_both, cases_if, if_true, if_false, le_of_eq, off_less}
 
 module _ {T A S : Type 0} {W : A → List T → Type 0} {F : List T → Type 0} {d : A → ℕ} {V : S → List T → Type 0} {G : List T → Type 0} {e : S → ℕ} {b : ℕ} (B levels : ℕ) (lv : B ≡ levels + b)
-    {first1 cont1 first2 cont2 : T → Bool} {p : List T → Result (A × List T) (List T)} {q : List T → Result (S × List T) (List T)}
+    {first1 first2 : T → Bool} {cont1 : A → T → Type 0} {cont2 : S → T → Type 0} {p : List T → Result (A × List T) (List T)} {q : List T → Result (S × List T) (List T)}
     (f : A → S → A) (fits : A → Bool)
-    (R : Reads W F d B first1 (By cont1) false p) (Q : Reads V G e b first2 (By cont2) false q)
-    (apart1 : Apart cont1 first2) (apart2 : Apart cont2 first2)
+    (R : Reads W F d B first1 cont1 false p) (Q : Reads V G e b first2 cont2 false q)
+    (apart1 : (l : A) (t : T) → cont1 l t → first2 t ≡ true → ⊥) (apart2 : (s : S) (t : T) → cont2 s t → first2 t ≡ true → ⊥)
     (fits_is : (l : A) → fits l ≡ true → d l ≤ b) (fits_if : (l : A) → d l ≤ b → fits l ≡ true)
     (over : (l : A) (s : S) → d (f l s) ≡ levels + max (d l) (e s)) where
-  abbrev pub suffixes_cont : T → Bool
-  suffixes_cont t = cont1 t || (cont2 t || first2 t)
+  abbrev pub suffixes_cont : A → T → Type 0
+  suffixes_cont x t = cont1 x t ⊎ (((l : A) × (s : S) × (x ≡ f l s) × cont2 s t) ⊎ (first2 t ≡ true))
+
+  -- what goes on with the rule, or with the last part behind it
+  abbrev behind_last : A → T → Type 0
+  behind_last x t = cont1 x t ⊎ ((l : A) × (s : S) × (x ≡ f l s) × cont2 s t)
+
+  apart_last : (x : A) (t : T) → behind_last x t → first2 t ≡ true → ⊥
+  apart_last x t (inl h) here = apart1 x t h here
+  apart_last x t (inr (l, s, e1, h)) here = apart2 s t h here
 
   abbrev loop : ℕ → A → List T → Result (A × List T) (List T)
   loop = read_more_suffixes first2 fits f q
@@ -85,15 +93,15 @@ module _ {T A S : Type 0} {W : A → List T → Type 0} {F : List T → Type 0} 
   ]
 
   -- The reader comes to the loop with each whole that stands before such a token.
-  run : (k : ℕ) (x : A) (u rest : List T) → ChainSpells W V f k x u → d x ≤ B → NextNotIn cont1 rest → NextNotIn cont2 rest → (m : ℕ) × (length rest ≤ m) × (read (u ++ rest) ≡ loop m x rest)
-  run zero x u rest h le off1 off2 = (length rest, le_refl _, ap (λ r. and_then r (λ l r. loop (length r) l r)) (R.complete x u rest h le off1))
-  run (suc k) x u rest (l, s, v, [], e1, e2, h, g) le off1 off2 = absurd (true≢false (sym (Q.empty s g)))
-  run (suc k) x u rest (l, s, v, t ∷ w, e1, e2, h, g) le off1 off2 =
+  run : (k : ℕ) (x : A) (u rest : List T) → ChainSpells W V f k x u → d x ≤ B → NextNot (behind_last x) rest → (m : ℕ) × (length rest ≤ m) × (read (u ++ rest) ≡ loop m x rest)
+  run zero x u rest h le off = (length rest, le_refl _, ap (λ r. and_then r (λ l r. loop (length r) l r)) (R.complete x u rest h le (off_less (λ t i. inl i) rest off)))
+  run (suc k) x u rest (l, s, v, [], e1, e2, h, g) le off = absurd (true≢false (sym (Q.empty s g)))
+  run (suc k) x u rest (l, s, v, t ∷ w, e1, e2, h, g) le off =
       let deep : d x ≡ levels + max (d l) (e s) = ap d e1 ∙ over l s in
       let le1 : d l ≤ b = omega (arith, deep, le) in
       let le2 : e s ≤ b = omega (arith, deep, le) in
       let here = Q.starts t w (Q.holds s (t ∷ w) g le2) in
-      let (m, len, same) = run k l v ((t ∷ w) ++ rest) h (omega (arith, le1)) (λ i. apart1 t i here) (λ i. apart2 t i here) in
+      let (m, len, same) = run k l v ((t ∷ w) ++ rest) h (omega (arith, le1)) (λ i. apart_last l t i here) in
       let again : u ++ rest ≡ v ++ ((t ∷ w) ++ rest) = ap (λ z. z ++ rest) e2 ∙ append_assoc v (t ∷ w) rest in
       onward m len (ap read again ∙ same) here le1 le2
     where
@@ -104,7 +112,7 @@ module _ {T A S : Type 0} {W : A → List T → Type 0} {F : List T → Type 0} 
         omega (arith, len, length-append w rest),
         same
             ∙ if_true (first2 t && fits l) (and_then (q (t ∷ (w ++ rest))) (λ s after. loop m (f l s) after)) (Ok (l, t ∷ (w ++ rest))) (and_both (first2 t) (fits l) here (fits_if l le1))
-            ∙ ap (λ r. and_then r (λ s after. loop m (f l s) after)) (Q.complete s (t ∷ w) rest g le2 off2)
+            ∙ ap (λ r. and_then r (λ s after. loop m (f l s) after)) (Q.complete s (t ∷ w) rest g le2 (off_less (λ t i. inr (l, s, e1, i)) rest off))
             ∙ ap (λ z. loop m z rest) (sym e1),
       )
 
@@ -113,22 +121,14 @@ module _ {T A S : Type 0} {W : A → List T → Type 0} {F : List T → Type 0} 
   loop_end (suc m) x [] off = refl
   loop_end (suc m) x (t ∷ r) off = if_false (first2 t && fits x) (and_then (q (t ∷ r)) (λ s after. loop m (f x s) after)) (Ok (x, t ∷ r)) (λ k. off ((and_split (first2 t) (fits x) k).0))
 
-  off_1 : (rest : List T) → NextNotIn suffixes_cont rest → NextNotIn cont1 rest
-  off_1 [] off = tt
-  off_1 (t ∷ r) off = λ k. off (or_left (cont1 t) _ k)
+  last_goes_on : (x : A) (t : T) → behind_last x t → suffixes_cont x t
+  last_goes_on x t (inl h) = inl h
+  last_goes_on x t (inr h) = inr (inl h)
 
-  off_2 : (rest : List T) → NextNotIn suffixes_cont rest → NextNotIn cont2 rest
-  off_2 [] off = tt
-  off_2 (t ∷ r) off = λ k. off (or_right (cont1 t) _ (or_left (cont2 t) _ k))
-
-  off_3 : (rest : List T) → NextNotIn suffixes_cont rest → NextNotIn first2 rest
-  off_3 [] off = tt
-  off_3 (t ∷ r) off = λ k. off (or_right (cont1 t) _ (or_right (cont2 t) _ k))
-
-  suffixes_complete : (x : A) (u rest : List T) → Whole x u → d x ≤ B → NextNotIn suffixes_cont rest → read (u ++ rest) ≡ Ok (x, rest)
+  suffixes_complete : (x : A) (u rest : List T) → Whole x u → d x ≤ B → NextNot (suffixes_cont x) rest → read (u ++ rest) ≡ Ok (x, rest)
   suffixes_complete x u rest h le off =
-      let (m, len, same) = run h.0 x u rest h.1 le (off_1 rest off) (off_2 rest off) in
-      same ∙ loop_end m x rest (off_3 rest off)
+      let (m, len, same) = run h.0 x u rest h.1 le (off_less (last_goes_on x) rest off) in
+      same ∙ loop_end m x rest (off_less (λ t i. inr (inr i)) rest off)
 
   -- the loop moves on only
   loop_short : (n : ℕ) (l : A) (ts : List T) → remaining (loop n l ts) ≤ length ts
@@ -155,7 +155,7 @@ module _ {T A S : Type 0} {W : A → List T → Type 0} {F : List T → Type 0} 
   behind : (l : A) (x : List T) (t : T) (w v : List T) → Whole l x → d l ≤ b → G (t ∷ w) → remaining (read (x ++ ((t ∷ w) ++ v))) ≤ length v
   behind l x t w v h le g =
       let here = Q.starts t w g in
-      let (m, len, same) = run h.0 l x ((t ∷ w) ++ v) h.1 (omega (arith, le)) (λ i. apart1 t i here) (λ i. apart2 t i here) in
+      let (m, len, same) = run h.0 l x ((t ∷ w) ++ v) h.1 (omega (arith, le)) (λ i. apart_last l t i here) in
       onward m len same here
     where
       onward : (m : ℕ) → length ((t ∷ w) ++ v) ≤ m → read (x ++ ((t ∷ w) ++ v)) ≡ loop m l ((t ∷ w) ++ v) → first2 t ≡ true → remaining (read (x ++ ((t ∷ w) ++ v))) ≤ length v
@@ -223,7 +223,7 @@ module _ {T A S : Type 0} {W : A → List T → Type 0} {F : List T → Type 0} 
       let deep : d x ≡ levels + max (d l) (e s) = ap d e1 ∙ over l s in
       inr (l, v, w, e2, (k, h), omega (arith, deep, le), Q.holds s w g (omega (arith, deep, le)))
 
-  pub suffixes_reads : Reads (SuffixesSpell W V f) Front d B first1 (By suffixes_cont) false (read_suffixes first2 fits f p q)
+  pub suffixes_reads : Reads (SuffixesSpell W V f) Front d B first1 suffixes_cont false (read_suffixes first2 fits f p q)
   suffixes_reads = record {
     sound = suffixes_sound;
     refusal = suffixes_refusal;

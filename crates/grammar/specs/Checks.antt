@@ -66,6 +66,7 @@ module _ {T N K : Type 0} {sorts : K → Sort} (G : Grammar T N K sorts) where
   GoesOn (choice r q) x t = GoesOn r x t ⊎ (GoesOn q x t ⊎ ((nullable q ≡ true) × (first r t ≡ true)))
   GoesOn (view {s = s} f r) x t = (a : El T N s) × (x ≡ f a) × GoesOn r a t
   GoesOn (node {s = s} f r) x t = (a : El T N s) × (x ≡ f a) × GoesOn r a t
+  GoesOn (suffixes {s = s} {r = r'} levels r q f) x t = GoesOn r x t ⊎ (((l : El T N s) × (y : El T N r') × (x ≡ f l y) × GoesOn q y t) ⊎ (first q t ≡ true))
   GoesOn (suffix {s = s} {r = r'} levels r ok q f) x t =
       GoesOn r x t ⊎ (((l : El T N s) × (y : El T N r') × (x ≡ f l y) × (ok l ≡ true) × GoesOn q y t) ⊎ ((ok x ≡ true) × (first q t ≡ true)))
   GoesOn (starting g r) x t = GoesOn r x t

@@ -90,6 +90,8 @@ pub enum Production {
     MorePairs(bool),
     /// What stands behind the first part of an `if`: `elsif` parts and an `else`.
     Otherwise,
+    /// `("," target)+ "=" rhs`; with a `*` among the targets or without one
+    MoreTargets(bool),
     /// `params` behind such ones; a name may be names in brackets, or may not
     Parameters(Stage, bool),
 }

@@ -431,6 +431,17 @@ place_is l h = by (nat_eq l.1 act.variable || (nat_eq l.1 act.attribute || nat_e
     by true h = depth_layer l.0 ∙ ap suc (place_layer (act.layer l.0) h)
     by false h = absurd (true≢false (sym h))
 
+pub target_deep : (l : Node × ℕ) → depth_of (act.target_node l) ≡ depth_of l.0
+target_deep l = by (act.place_of l) (λ h. place_is l h)
+  where
+    by : (o : Option act.Place) → (is_some o ≡ true → depth_of l.0 ≡ suc (place_depth o)) → depth_of (act.name_target o l.0) ≡ depth_of l.0
+    by None h = refl
+    by (Some (act.local name)) h = omega (arith, h refl, d.depth_local_get name (l.0).span (l.0).mark)
+    by (Some (act.ivar name)) h = refl
+    by (Some (act.global name)) h = refl
+    by (Some (act.constant name)) h = refl
+    by (Some (act.attribute_of receiver name args)) h = refl
+
 -- ---- assignments
 
 set_deep : (place : Option act.Place) (target value : Node) → is_some place ≡ true → depth_of target ≡ suc (place_depth place) → depth_of (act.set_place place target value) ≡ max (depth_of target) (suc (depth_of value))

@@ -2,7 +2,7 @@
 use Rattle.std.proofs.Common.{◌≡◌, ℕ, zero, suc, ◌<◌, max, Bool, true, false, ◌&&◌, ◌||◌, List, [], ◌∷◌, map, Option, Some, None, ◌⊎◌, inl, inr, refl, sym, ap, ◌∙◌, subst, arith, true≢false}
 use Rattle.std.specs.Prelude.{nat_eq, not, is_some, codes, if◌then◌else◌}
 use Rattle.grammar.specs.Forms.{deepest}
-use Rattle.grammar.specs.Rules.{Sort, leaf, tree, marked, pair, optional, under, El, node, view, choice, named, suffix, Held, deep_if}
+use Rattle.grammar.specs.Rules.{Sort, leaf, tree, marked, pair, optional, under, El, node, view, choice, named, suffix, suffixes, Held, deep_if}
 use Rattle.grammar.specs.Checks.{nullable, first, continues, GoesOn, Disjoint, Included, Checks}
 use Rattle.grammar.specs.CommonRules.{behind as behind_token}
 use Rattle.grammar.proofs.Depths.{deepest_flat}
@@ -36,11 +36,11 @@ use Rattle.ruby_meaning.specs.declared.tree.ModuleForm.TheVariants as form
 use Rattle.ruby_meaning.specs.Grammar.Definitions.{then_sign, else_part, branch, otherwise, if_value, unless_value, loop_body, while_value, until_value, when_clause, case_value, class_header, rescue_clause, body_else, body_ensure, handlers, body_behind, begin_value, module_body, class_value, module_value, method_name, def_name, def_in_brackets, def_plain, def_value, keyword_form}
 use Rattle.ruby_meaning.specs.Grammar.Primaries.{keyword_value, word_value, integer_value, text, ivar_value, gvar_value, top_constant, word_list, embedded, interpolated, parenthesized, array, label_key, pair_in_braces, hash_value, plain_call, lambda_block, empty_brackets, full_brackets, lambda_call, called, begins_tail, name_call, arrow_parameters, plain_block, arrow_value, constant_value, super_value, yield_value, prim, dot_part, scope_part, bracket, post}
 use Rattle.ruby_meaning.specs.Grammar.Expressions.{plain, not_level, power_level, minus_level, product_level, sum_level, shift_level, comparison_level, equal_level, equality_level, and_level, or_level, range_level, ternary, updates, set_part, update_part, two_nodes, assignment, argument, command_arguments, do_beside, command_part, commanding, splat, item, more_items, splat_list, other_items, one_value, nested_value, right_side, jump_value, jump, command_level, block_argument, label_pair, arrow_pair, after_comma, finished, arguments_from, arguments, cargs, more_pairs}
-use Rattle.ruby_meaning.specs.Grammar.Statements.{not_expression, expression, alias_statement, undef_statement, simple, modifier, statement, line, statement_list}
+use Rattle.ruby_meaning.specs.Grammar.Statements.{not_expression, expression, alias_statement, undef_statement, placed, target, star_target, behind_target, next_target, more_targets, starred_set, several_set, simple, modifier, statement, line, statement_list}
 use Rattle.ruby_meaning.specs.Grammar.Table.{table, begins_command, value_goes_on, goes_on_of}
 use Rattle.ruby_meaning.specs.Grammar.Table.{continues as behind}
 use Rattle.ruby_meaning.proofs.Grammar.Depths as d
-use Rattle.ruby_meaning.proofs.Grammar.ActionDepths.{flat_option, args_depth, parameters_depth, slot_deep, name_deep, rest_deep, parameters_deep, lambda_deep, handlers_deep, on_deep, def_deep, filled_deep, replaced_deep, items_deep, named_deep, constant_deep, super_deep, yield_deep, part_deep, selector_deep, some_level, joined_deep, statements_deep, sequence_deep, jump_deep, array_deep, assigned_deep, variable_deep, attribute_deep, command_deep, yield_command_deep, key_deep, more_deep, single_open, pair_open}
+use Rattle.ruby_meaning.proofs.Grammar.ActionDepths.{flat_option, args_depth, parameters_depth, slot_deep, name_deep, rest_deep, target_deep, parameters_deep, lambda_deep, handlers_deep, on_deep, def_deep, filled_deep, replaced_deep, items_deep, named_deep, constant_deep, super_deep, yield_deep, part_deep, selector_deep, some_level, joined_deep, statements_deep, sequence_deep, jump_deep, array_deep, assigned_deep, variable_deep, attribute_deep, command_deep, yield_command_deep, key_deep, more_deep, single_open, pair_open}
 
 binary_deep : (l : Node × ℕ) (x : Seen × Node) → depth_of ((act.binary l x).0) ≡ suc (max (depth_of l.0) (depth_of x.1))
 binary_deep l x = omega (arith, d.depth_call (Some l.0) (act.method_name x.0) (x.1 ∷ []) None None (act.nodes l.0 x.1) (act.start x.0))
@@ -91,6 +91,7 @@ bounded k x t h = by k.production x h
     by (p.CommandArguments blocks) x h = h
     by (p.Arguments blocks) x h = h
     by (p.MorePairs blocks) x h = h
+    by (p.MoreTargets starred) x h = h
     by (p.Parameters stage brackets) x h = h
 
 empty_deep : (s : Span) → depth_of (act.empty_at s) ≡ 1
@@ -116,44 +117,44 @@ form_deep (None, Some n) = omega (arith, d.depth_singleton n)
 form_deep (None, None) = d.depth_module
 
 c_newlines : Checks table (newlines)
-unfolding table parameter_name bracketed_names more_parameters default_value no_default behind_name named_parameter bracketed_parameter rest_parameter block_parameter sign_parameter simple_parameters parameters block_parameters brace_parts do_parts body_behind def_name def_in_brackets def_plain def_value plain_call lambda_block empty_brackets full_brackets lambda_call called arrow_parameters plain_block arrow_value then_sign else_part branch otherwise if_value unless_value loop_body while_value until_value when_clause case_value class_header rescue_clause body_else body_ensure handlers begin_value module_body class_value module_value keyword_form newlines behind_newlines paren closed brace_block do_block block tail paren_tail keyword_value word_value integer_value text ivar_value gvar_value top_constant word_list embedded interpolated parenthesized array label_key pair_in_braces hash_value name_call constant_value super_value yield_value prim dot_part scope_part bracket post not_level power_level minus_level product_level sum_level shift_level comparison_level equal_level equality_level and_level or_level range_level ternary argument command_arguments command_part splat item more_items splat_list other_items one_value nested_value right_side jump_value jump command_level block_argument label_pair arrow_pair arguments_from arguments cargs more_pairs method_name not_expression expression alias_statement undef_statement simple modifier statement line statement_list
+unfolding table placed target star_target behind_target next_target more_targets starred_set several_set parameter_name bracketed_names more_parameters default_value no_default behind_name named_parameter bracketed_parameter rest_parameter block_parameter sign_parameter simple_parameters parameters block_parameters brace_parts do_parts body_behind def_name def_in_brackets def_plain def_value plain_call lambda_block empty_brackets full_brackets lambda_call called arrow_parameters plain_block arrow_value then_sign else_part branch otherwise if_value unless_value loop_body while_value until_value when_clause case_value class_header rescue_clause body_else body_ensure handlers begin_value module_body class_value module_value keyword_form newlines behind_newlines paren closed brace_block do_block block tail paren_tail keyword_value word_value integer_value text ivar_value gvar_value top_constant word_list embedded interpolated parenthesized array label_key pair_in_braces hash_value name_call constant_value super_value yield_value prim dot_part scope_part bracket post not_level power_level minus_level product_level sum_level shift_level comparison_level equal_level equality_level and_level or_level range_level ternary argument command_arguments command_part splat item more_items splat_list other_items one_value nested_value right_side jump_value jump command_level block_argument label_pair arrow_pair arguments_from arguments cargs more_pairs method_name not_expression expression alias_statement undef_statement simple modifier statement line statement_list
 c_newlines = (refl, refl, tt)
 
 c_close : (r blocks : Bool) → Checks table (closed r blocks (op mark.BracketClose))
-unfolding table parameter_name bracketed_names more_parameters default_value no_default behind_name named_parameter bracketed_parameter rest_parameter block_parameter sign_parameter simple_parameters parameters block_parameters brace_parts do_parts body_behind def_name def_in_brackets def_plain def_value plain_call lambda_block empty_brackets full_brackets lambda_call called arrow_parameters plain_block arrow_value then_sign else_part branch otherwise if_value unless_value loop_body while_value until_value when_clause case_value class_header rescue_clause body_else body_ensure handlers begin_value module_body class_value module_value keyword_form newlines behind_newlines paren closed brace_block do_block block tail paren_tail keyword_value word_value integer_value text ivar_value gvar_value top_constant word_list embedded interpolated parenthesized array label_key pair_in_braces hash_value name_call constant_value super_value yield_value prim dot_part scope_part bracket post not_level power_level minus_level product_level sum_level shift_level comparison_level equal_level equality_level and_level or_level range_level ternary argument command_arguments command_part splat item more_items splat_list other_items one_value nested_value right_side jump_value jump command_level block_argument label_pair arrow_pair arguments_from arguments cargs more_pairs method_name not_expression expression alias_statement undef_statement simple modifier statement line statement_list
+unfolding table placed target star_target behind_target next_target more_targets starred_set several_set parameter_name bracketed_names more_parameters default_value no_default behind_name named_parameter bracketed_parameter rest_parameter block_parameter sign_parameter simple_parameters parameters block_parameters brace_parts do_parts body_behind def_name def_in_brackets def_plain def_value plain_call lambda_block empty_brackets full_brackets lambda_call called arrow_parameters plain_block arrow_value then_sign else_part branch otherwise if_value unless_value loop_body while_value until_value when_clause case_value class_header rescue_clause body_else body_ensure handlers begin_value module_body class_value module_value keyword_form newlines behind_newlines paren closed brace_block do_block block tail paren_tail keyword_value word_value integer_value text ivar_value gvar_value top_constant word_list embedded interpolated parenthesized array label_key pair_in_braces hash_value name_call constant_value super_value yield_value prim dot_part scope_part bracket post not_level power_level minus_level product_level sum_level shift_level comparison_level equal_level equality_level and_level or_level range_level ternary argument command_arguments command_part splat item more_items splat_list other_items one_value nested_value right_side jump_value jump command_level block_argument label_pair arrow_pair arguments_from arguments cargs more_pairs method_name not_expression expression alias_statement undef_statement simple modifier statement line statement_list
 c_close r blocks = (refl, (refl, refl, tt, tt), (λ x. omega (arith, deepest_flat x.0), (refl, c_newlines, tt)))
 
 c_paren : (r blocks : Bool) → Checks table (paren r blocks)
-unfolding table parameter_name bracketed_names more_parameters default_value no_default behind_name named_parameter bracketed_parameter rest_parameter block_parameter sign_parameter simple_parameters parameters block_parameters brace_parts do_parts body_behind def_name def_in_brackets def_plain def_value plain_call lambda_block empty_brackets full_brackets lambda_call called arrow_parameters plain_block arrow_value then_sign else_part branch otherwise if_value unless_value loop_body while_value until_value when_clause case_value class_header rescue_clause body_else body_ensure handlers begin_value module_body class_value module_value keyword_form newlines behind_newlines paren closed brace_block do_block block tail paren_tail keyword_value word_value integer_value text ivar_value gvar_value top_constant word_list embedded interpolated parenthesized array label_key pair_in_braces hash_value name_call constant_value super_value yield_value prim dot_part scope_part bracket post not_level power_level minus_level product_level sum_level shift_level comparison_level equal_level equality_level and_level or_level range_level ternary argument command_arguments command_part splat item more_items splat_list other_items one_value nested_value right_side jump_value jump command_level block_argument label_pair arrow_pair arguments_from arguments cargs more_pairs method_name not_expression expression alias_statement undef_statement simple modifier statement line statement_list
+unfolding table placed target star_target behind_target next_target more_targets starred_set several_set parameter_name bracketed_names more_parameters default_value no_default behind_name named_parameter bracketed_parameter rest_parameter block_parameter sign_parameter simple_parameters parameters block_parameters brace_parts do_parts body_behind def_name def_in_brackets def_plain def_value plain_call lambda_block empty_brackets full_brackets lambda_call called arrow_parameters plain_block arrow_value then_sign else_part branch otherwise if_value unless_value loop_body while_value until_value when_clause case_value class_header rescue_clause body_else body_ensure handlers begin_value module_body class_value module_value keyword_form newlines behind_newlines paren closed brace_block do_block block tail paren_tail keyword_value word_value integer_value text ivar_value gvar_value top_constant word_list embedded interpolated parenthesized array label_key pair_in_braces hash_value name_call constant_value super_value yield_value prim dot_part scope_part bracket post not_level power_level minus_level product_level sum_level shift_level comparison_level equal_level equality_level and_level or_level range_level ternary argument command_arguments command_part splat item more_items splat_list other_items one_value nested_value right_side jump_value jump command_level block_argument label_pair arrow_pair arguments_from arguments cargs more_pairs method_name not_expression expression alias_statement undef_statement simple modifier statement line statement_list
 c_paren r blocks = (λ x. omega arith, (refl, tt, (refl, (refl, refl, tt, tt), (λ x. omega (arith, deepest_flat x.0), (refl, c_newlines, tt)))))
 
 -- ---- parameters
 
 c_more_parameters : (r b : Bool) (s : Stage) → Checks table (more_parameters r b s)
-unfolding table parameter_name bracketed_names more_parameters default_value no_default behind_name named_parameter bracketed_parameter rest_parameter block_parameter sign_parameter simple_parameters parameters block_parameters brace_parts do_parts body_behind def_name def_in_brackets def_plain def_value plain_call lambda_block empty_brackets full_brackets lambda_call called arrow_parameters plain_block arrow_value then_sign else_part branch otherwise if_value unless_value loop_body while_value until_value when_clause case_value class_header rescue_clause body_else body_ensure handlers begin_value module_body class_value module_value keyword_form newlines behind_newlines paren closed brace_block do_block block tail paren_tail keyword_value word_value integer_value text ivar_value gvar_value top_constant word_list embedded interpolated parenthesized array label_key pair_in_braces hash_value name_call constant_value super_value yield_value prim dot_part scope_part bracket post not_level power_level minus_level product_level sum_level shift_level comparison_level equal_level equality_level and_level or_level range_level ternary argument command_arguments command_part splat item more_items splat_list other_items one_value nested_value right_side jump_value jump command_level block_argument label_pair arrow_pair arguments_from arguments cargs more_pairs method_name not_expression expression alias_statement undef_statement simple modifier statement line statement_list
+unfolding table placed target star_target behind_target next_target more_targets starred_set several_set parameter_name bracketed_names more_parameters default_value no_default behind_name named_parameter bracketed_parameter rest_parameter block_parameter sign_parameter simple_parameters parameters block_parameters brace_parts do_parts body_behind def_name def_in_brackets def_plain def_value plain_call lambda_block empty_brackets full_brackets lambda_call called arrow_parameters plain_block arrow_value then_sign else_part branch otherwise if_value unless_value loop_body while_value until_value when_clause case_value class_header rescue_clause body_else body_ensure handlers begin_value module_body class_value module_value keyword_form newlines behind_newlines paren closed brace_block do_block block tail paren_tail keyword_value word_value integer_value text ivar_value gvar_value top_constant word_list embedded interpolated parenthesized array label_key pair_in_braces hash_value name_call constant_value super_value yield_value prim dot_part scope_part bracket post not_level power_level minus_level product_level sum_level shift_level comparison_level equal_level equality_level and_level or_level range_level ternary argument command_arguments command_part splat item more_items splat_list other_items one_value nested_value right_side jump_value jump command_level block_argument label_pair arrow_pair arguments_from arguments cargs more_pairs method_name not_expression expression alias_statement undef_statement simple modifier statement line statement_list
 c_more_parameters r b s = (refl, refl, (λ x. omega arith, (refl, tt, tt)), tt)
 
 c_default : (r b : Bool) → Checks table (default_value r b)
-unfolding table parameter_name bracketed_names more_parameters default_value no_default behind_name named_parameter bracketed_parameter rest_parameter block_parameter sign_parameter simple_parameters parameters block_parameters brace_parts do_parts body_behind def_name def_in_brackets def_plain def_value plain_call lambda_block empty_brackets full_brackets lambda_call called arrow_parameters plain_block arrow_value then_sign else_part branch otherwise if_value unless_value loop_body while_value until_value when_clause case_value class_header rescue_clause body_else body_ensure handlers begin_value module_body class_value module_value keyword_form newlines behind_newlines paren closed brace_block do_block block tail paren_tail keyword_value word_value integer_value text ivar_value gvar_value top_constant word_list embedded interpolated parenthesized array label_key pair_in_braces hash_value name_call constant_value super_value yield_value prim dot_part scope_part bracket post not_level power_level minus_level product_level sum_level shift_level comparison_level equal_level equality_level and_level or_level range_level ternary argument command_arguments command_part splat item more_items splat_list other_items one_value nested_value right_side jump_value jump command_level block_argument label_pair arrow_pair arguments_from arguments cargs more_pairs method_name not_expression expression alias_statement undef_statement simple modifier statement line statement_list
+unfolding table placed target star_target behind_target next_target more_targets starred_set several_set parameter_name bracketed_names more_parameters default_value no_default behind_name named_parameter bracketed_parameter rest_parameter block_parameter sign_parameter simple_parameters parameters block_parameters brace_parts do_parts body_behind def_name def_in_brackets def_plain def_value plain_call lambda_block empty_brackets full_brackets lambda_call called arrow_parameters plain_block arrow_value then_sign else_part branch otherwise if_value unless_value loop_body while_value until_value when_clause case_value class_header rescue_clause body_else body_ensure handlers begin_value module_body class_value module_value keyword_form newlines behind_newlines paren closed brace_block do_block block tail paren_tail keyword_value word_value integer_value text ivar_value gvar_value top_constant word_list embedded interpolated parenthesized array label_key pair_in_braces hash_value name_call constant_value super_value yield_value prim dot_part scope_part bracket post not_level power_level minus_level product_level sum_level shift_level comparison_level equal_level equality_level and_level or_level range_level ternary argument command_arguments command_part splat item more_items splat_list other_items one_value nested_value right_side jump_value jump command_level block_argument label_pair arrow_pair arguments_from arguments cargs more_pairs method_name not_expression expression alias_statement undef_statement simple modifier statement line statement_list
 c_default r b = (refl, (λ x. refl, (λ x. omega arith, (refl, tt, tt))), c_more_parameters r b stage.Optional)
 
 c_no_default : (r b : Bool) (s : Stage) → Checks table (no_default r b s)
-unfolding table parameter_name bracketed_names more_parameters default_value no_default behind_name named_parameter bracketed_parameter rest_parameter block_parameter sign_parameter simple_parameters parameters block_parameters brace_parts do_parts body_behind def_name def_in_brackets def_plain def_value plain_call lambda_block empty_brackets full_brackets lambda_call called arrow_parameters plain_block arrow_value then_sign else_part branch otherwise if_value unless_value loop_body while_value until_value when_clause case_value class_header rescue_clause body_else body_ensure handlers begin_value module_body class_value module_value keyword_form newlines behind_newlines paren closed brace_block do_block block tail paren_tail keyword_value word_value integer_value text ivar_value gvar_value top_constant word_list embedded interpolated parenthesized array label_key pair_in_braces hash_value name_call constant_value super_value yield_value prim dot_part scope_part bracket post not_level power_level minus_level product_level sum_level shift_level comparison_level equal_level equality_level and_level or_level range_level ternary argument command_arguments command_part splat item more_items splat_list other_items one_value nested_value right_side jump_value jump command_level block_argument label_pair arrow_pair arguments_from arguments cargs more_pairs method_name not_expression expression alias_statement undef_statement simple modifier statement line statement_list
+unfolding table placed target star_target behind_target next_target more_targets starred_set several_set parameter_name bracketed_names more_parameters default_value no_default behind_name named_parameter bracketed_parameter rest_parameter block_parameter sign_parameter simple_parameters parameters block_parameters brace_parts do_parts body_behind def_name def_in_brackets def_plain def_value plain_call lambda_block empty_brackets full_brackets lambda_call called arrow_parameters plain_block arrow_value then_sign else_part branch otherwise if_value unless_value loop_body while_value until_value when_clause case_value class_header rescue_clause body_else body_ensure handlers begin_value module_body class_value module_value keyword_form newlines behind_newlines paren closed brace_block do_block block tail paren_tail keyword_value word_value integer_value text ivar_value gvar_value top_constant word_list embedded interpolated parenthesized array label_key pair_in_braces hash_value name_call constant_value super_value yield_value prim dot_part scope_part bracket post not_level power_level minus_level product_level sum_level shift_level comparison_level equal_level equality_level and_level or_level range_level ternary argument command_arguments command_part splat item more_items splat_list other_items one_value nested_value right_side jump_value jump command_level block_argument label_pair arrow_pair arguments_from arguments cargs more_pairs method_name not_expression expression alias_statement undef_statement simple modifier statement line statement_list
 c_no_default r b s = (λ x. omega arith, c_more_parameters r b (behind_plain s))
 
 c_behind_name : (r b : Bool) (s : Stage) → Checks table (behind_name r b s)
-unfolding table parameter_name bracketed_names more_parameters default_value no_default behind_name named_parameter bracketed_parameter rest_parameter block_parameter sign_parameter simple_parameters parameters block_parameters brace_parts do_parts body_behind def_name def_in_brackets def_plain def_value plain_call lambda_block empty_brackets full_brackets lambda_call called arrow_parameters plain_block arrow_value then_sign else_part branch otherwise if_value unless_value loop_body while_value until_value when_clause case_value class_header rescue_clause body_else body_ensure handlers begin_value module_body class_value module_value keyword_form newlines behind_newlines paren closed brace_block do_block block tail paren_tail keyword_value word_value integer_value text ivar_value gvar_value top_constant word_list embedded interpolated parenthesized array label_key pair_in_braces hash_value name_call constant_value super_value yield_value prim dot_part scope_part bracket post not_level power_level minus_level product_level sum_level shift_level comparison_level equal_level equality_level and_level or_level range_level ternary argument command_arguments command_part splat item more_items splat_list other_items one_value nested_value right_side jump_value jump command_level block_argument label_pair arrow_pair arguments_from arguments cargs more_pairs method_name not_expression expression alias_statement undef_statement simple modifier statement line statement_list
+unfolding table placed target star_target behind_target next_target more_targets starred_set several_set parameter_name bracketed_names more_parameters default_value no_default behind_name named_parameter bracketed_parameter rest_parameter block_parameter sign_parameter simple_parameters parameters block_parameters brace_parts do_parts body_behind def_name def_in_brackets def_plain def_value plain_call lambda_block empty_brackets full_brackets lambda_call called arrow_parameters plain_block arrow_value then_sign else_part branch otherwise if_value unless_value loop_body while_value until_value when_clause case_value class_header rescue_clause body_else body_ensure handlers begin_value module_body class_value module_value keyword_form newlines behind_newlines paren closed brace_block do_block block tail paren_tail keyword_value word_value integer_value text ivar_value gvar_value top_constant word_list embedded interpolated parenthesized array label_key pair_in_braces hash_value name_call constant_value super_value yield_value prim dot_part scope_part bracket post not_level power_level minus_level product_level sum_level shift_level comparison_level equal_level equality_level and_level or_level range_level ternary argument command_arguments command_part splat item more_items splat_list other_items one_value nested_value right_side jump_value jump command_level block_argument label_pair arrow_pair arguments_from arguments cargs more_pairs method_name not_expression expression alias_statement undef_statement simple modifier statement line statement_list
 c_behind_name r b stage.Plain = (refl, refl, c_default r b, c_no_default r b stage.Plain)
 c_behind_name r b stage.Optional = (refl, refl, c_default r b, c_no_default r b stage.Optional)
 c_behind_name r b stage.Rest = c_no_default r b stage.Rest
 c_behind_name r b stage.After = c_no_default r b stage.After
 
 c_named_parameter : (r b : Bool) (s : Stage) → Checks table (named_parameter r b s)
-unfolding table parameter_name bracketed_names more_parameters default_value no_default behind_name named_parameter bracketed_parameter rest_parameter block_parameter sign_parameter simple_parameters parameters block_parameters brace_parts do_parts body_behind def_name def_in_brackets def_plain def_value plain_call lambda_block empty_brackets full_brackets lambda_call called arrow_parameters plain_block arrow_value then_sign else_part branch otherwise if_value unless_value loop_body while_value until_value when_clause case_value class_header rescue_clause body_else body_ensure handlers begin_value module_body class_value module_value keyword_form newlines behind_newlines paren closed brace_block do_block block tail paren_tail keyword_value word_value integer_value text ivar_value gvar_value top_constant word_list embedded interpolated parenthesized array label_key pair_in_braces hash_value name_call constant_value super_value yield_value prim dot_part scope_part bracket post not_level power_level minus_level product_level sum_level shift_level comparison_level equal_level equality_level and_level or_level range_level ternary argument command_arguments command_part splat item more_items splat_list other_items one_value nested_value right_side jump_value jump command_level block_argument label_pair arrow_pair arguments_from arguments cargs more_pairs method_name not_expression expression alias_statement undef_statement simple modifier statement line statement_list
+unfolding table placed target star_target behind_target next_target more_targets starred_set several_set parameter_name bracketed_names more_parameters default_value no_default behind_name named_parameter bracketed_parameter rest_parameter block_parameter sign_parameter simple_parameters parameters block_parameters brace_parts do_parts body_behind def_name def_in_brackets def_plain def_value plain_call lambda_block empty_brackets full_brackets lambda_call called arrow_parameters plain_block arrow_value then_sign else_part branch otherwise if_value unless_value loop_body while_value until_value when_clause case_value class_header rescue_clause body_else body_ensure handlers begin_value module_body class_value module_value keyword_form newlines behind_newlines paren closed brace_block do_block block tail paren_tail keyword_value word_value integer_value text ivar_value gvar_value top_constant word_list embedded interpolated parenthesized array label_key pair_in_braces hash_value name_call constant_value super_value yield_value prim dot_part scope_part bracket post not_level power_level minus_level product_level sum_level shift_level comparison_level equal_level equality_level and_level or_level range_level ternary argument command_arguments command_part splat item more_items splat_list other_items one_value nested_value right_side jump_value jump command_level block_argument label_pair arrow_pair arguments_from arguments cargs more_pairs method_name not_expression expression alias_statement undef_statement simple modifier statement line statement_list
 c_named_parameter r b s = (λ x. omega (arith, name_deep s x.0 (x.1.0) (x.1.1)), (refl, tt, c_behind_name r b s))
 
 c_bracketed_names : Checks table (bracketed_names)
-unfolding table parameter_name bracketed_names more_parameters default_value no_default behind_name named_parameter bracketed_parameter rest_parameter block_parameter sign_parameter simple_parameters parameters block_parameters brace_parts do_parts body_behind def_name def_in_brackets def_plain def_value plain_call lambda_block empty_brackets full_brackets lambda_call called arrow_parameters plain_block arrow_value then_sign else_part branch otherwise if_value unless_value loop_body while_value until_value when_clause case_value class_header rescue_clause body_else body_ensure handlers begin_value module_body class_value module_value keyword_form newlines behind_newlines paren closed brace_block do_block block tail paren_tail keyword_value word_value integer_value text ivar_value gvar_value top_constant word_list embedded interpolated parenthesized array label_key pair_in_braces hash_value name_call constant_value super_value yield_value prim dot_part scope_part bracket post not_level power_level minus_level product_level sum_level shift_level comparison_level equal_level equality_level and_level or_level range_level ternary argument command_arguments command_part splat item more_items splat_list other_items one_value nested_value right_side jump_value jump command_level block_argument label_pair arrow_pair arguments_from arguments cargs more_pairs method_name not_expression expression alias_statement undef_statement simple modifier statement line statement_list
+unfolding table placed target star_target behind_target next_target more_targets starred_set several_set parameter_name bracketed_names more_parameters default_value no_default behind_name named_parameter bracketed_parameter rest_parameter block_parameter sign_parameter simple_parameters parameters block_parameters brace_parts do_parts body_behind def_name def_in_brackets def_plain def_value plain_call lambda_block empty_brackets full_brackets lambda_call called arrow_parameters plain_block arrow_value then_sign else_part branch otherwise if_value unless_value loop_body while_value until_value when_clause case_value class_header rescue_clause body_else body_ensure handlers begin_value module_body class_value module_value keyword_form newlines behind_newlines paren closed brace_block do_block block tail paren_tail keyword_value word_value integer_value text ivar_value gvar_value top_constant word_list embedded interpolated parenthesized array label_key pair_in_braces hash_value name_call constant_value super_value yield_value prim dot_part scope_part bracket post not_level power_level minus_level product_level sum_level shift_level comparison_level equal_level equality_level and_level or_level range_level ternary argument command_arguments command_part splat item more_items splat_list other_items one_value nested_value right_side jump_value jump command_level block_argument label_pair arrow_pair arguments_from arguments cargs more_pairs method_name not_expression expression alias_statement undef_statement simple modifier statement line statement_list
 c_bracketed_names = (
   λ x. omega arith,
   (
@@ -167,33 +168,33 @@ c_bracketed_names = (
 )
 
 c_bracketed : (r b : Bool) (s : Stage) → Checks table (bracketed_parameter r b s)
-unfolding table parameter_name bracketed_names more_parameters default_value no_default behind_name named_parameter bracketed_parameter rest_parameter block_parameter sign_parameter simple_parameters parameters block_parameters brace_parts do_parts body_behind def_name def_in_brackets def_plain def_value plain_call lambda_block empty_brackets full_brackets lambda_call called arrow_parameters plain_block arrow_value then_sign else_part branch otherwise if_value unless_value loop_body while_value until_value when_clause case_value class_header rescue_clause body_else body_ensure handlers begin_value module_body class_value module_value keyword_form newlines behind_newlines paren closed brace_block do_block block tail paren_tail keyword_value word_value integer_value text ivar_value gvar_value top_constant word_list embedded interpolated parenthesized array label_key pair_in_braces hash_value name_call constant_value super_value yield_value prim dot_part scope_part bracket post not_level power_level minus_level product_level sum_level shift_level comparison_level equal_level equality_level and_level or_level range_level ternary argument command_arguments command_part splat item more_items splat_list other_items one_value nested_value right_side jump_value jump command_level block_argument label_pair arrow_pair arguments_from arguments cargs more_pairs method_name not_expression expression alias_statement undef_statement simple modifier statement line statement_list
+unfolding table placed target star_target behind_target next_target more_targets starred_set several_set parameter_name bracketed_names more_parameters default_value no_default behind_name named_parameter bracketed_parameter rest_parameter block_parameter sign_parameter simple_parameters parameters block_parameters brace_parts do_parts body_behind def_name def_in_brackets def_plain def_value plain_call lambda_block empty_brackets full_brackets lambda_call called arrow_parameters plain_block arrow_value then_sign else_part branch otherwise if_value unless_value loop_body while_value until_value when_clause case_value class_header rescue_clause body_else body_ensure handlers begin_value module_body class_value module_value keyword_form newlines behind_newlines paren closed brace_block do_block block tail paren_tail keyword_value word_value integer_value text ivar_value gvar_value top_constant word_list embedded interpolated parenthesized array label_key pair_in_braces hash_value name_call constant_value super_value yield_value prim dot_part scope_part bracket post not_level power_level minus_level product_level sum_level shift_level comparison_level equal_level equality_level and_level or_level range_level ternary argument command_arguments command_part splat item more_items splat_list other_items one_value nested_value right_side jump_value jump command_level block_argument label_pair arrow_pair arguments_from arguments cargs more_pairs method_name not_expression expression alias_statement undef_statement simple modifier statement line statement_list
 c_bracketed r b s = (λ x. omega (arith, slot_deep s x.0 x.1), (refl, c_bracketed_names, c_more_parameters r b (behind_plain s)))
 
 c_rest : (r b : Bool) → Checks table (rest_parameter r b)
-unfolding table parameter_name bracketed_names more_parameters default_value no_default behind_name named_parameter bracketed_parameter rest_parameter block_parameter sign_parameter simple_parameters parameters block_parameters brace_parts do_parts body_behind def_name def_in_brackets def_plain def_value plain_call lambda_block empty_brackets full_brackets lambda_call called arrow_parameters plain_block arrow_value then_sign else_part branch otherwise if_value unless_value loop_body while_value until_value when_clause case_value class_header rescue_clause body_else body_ensure handlers begin_value module_body class_value module_value keyword_form newlines behind_newlines paren closed brace_block do_block block tail paren_tail keyword_value word_value integer_value text ivar_value gvar_value top_constant word_list embedded interpolated parenthesized array label_key pair_in_braces hash_value name_call constant_value super_value yield_value prim dot_part scope_part bracket post not_level power_level minus_level product_level sum_level shift_level comparison_level equal_level equality_level and_level or_level range_level ternary argument command_arguments command_part splat item more_items splat_list other_items one_value nested_value right_side jump_value jump command_level block_argument label_pair arrow_pair arguments_from arguments cargs more_pairs method_name not_expression expression alias_statement undef_statement simple modifier statement line statement_list
+unfolding table placed target star_target behind_target next_target more_targets starred_set several_set parameter_name bracketed_names more_parameters default_value no_default behind_name named_parameter bracketed_parameter rest_parameter block_parameter sign_parameter simple_parameters parameters block_parameters brace_parts do_parts body_behind def_name def_in_brackets def_plain def_value plain_call lambda_block empty_brackets full_brackets lambda_call called arrow_parameters plain_block arrow_value then_sign else_part branch otherwise if_value unless_value loop_body while_value until_value when_clause case_value class_header rescue_clause body_else body_ensure handlers begin_value module_body class_value module_value keyword_form newlines behind_newlines paren closed brace_block do_block block tail paren_tail keyword_value word_value integer_value text ivar_value gvar_value top_constant word_list embedded interpolated parenthesized array label_key pair_in_braces hash_value name_call constant_value super_value yield_value prim dot_part scope_part bracket post not_level power_level minus_level product_level sum_level shift_level comparison_level equal_level equality_level and_level or_level range_level ternary argument command_arguments command_part splat item more_items splat_list other_items one_value nested_value right_side jump_value jump command_level block_argument label_pair arrow_pair arguments_from arguments cargs more_pairs method_name not_expression expression alias_statement undef_statement simple modifier statement line statement_list
 c_rest r b = (λ x. omega (arith, rest_deep (x.1.0) (x.1.1), flat_option (x.1.0)), (refl, tt, (refl, (refl, refl, (λ x. refl, tt), tt), c_more_parameters r b stage.Rest)))
 
 c_block_parameter : (r b : Bool) → Checks table (block_parameter r b)
-unfolding table parameter_name bracketed_names more_parameters default_value no_default behind_name named_parameter bracketed_parameter rest_parameter block_parameter sign_parameter simple_parameters parameters block_parameters brace_parts do_parts body_behind def_name def_in_brackets def_plain def_value plain_call lambda_block empty_brackets full_brackets lambda_call called arrow_parameters plain_block arrow_value then_sign else_part branch otherwise if_value unless_value loop_body while_value until_value when_clause case_value class_header rescue_clause body_else body_ensure handlers begin_value module_body class_value module_value keyword_form newlines behind_newlines paren closed brace_block do_block block tail paren_tail keyword_value word_value integer_value text ivar_value gvar_value top_constant word_list embedded interpolated parenthesized array label_key pair_in_braces hash_value name_call constant_value super_value yield_value prim dot_part scope_part bracket post not_level power_level minus_level product_level sum_level shift_level comparison_level equal_level equality_level and_level or_level range_level ternary argument command_arguments command_part splat item more_items splat_list other_items one_value nested_value right_side jump_value jump command_level block_argument label_pair arrow_pair arguments_from arguments cargs more_pairs method_name not_expression expression alias_statement undef_statement simple modifier statement line statement_list
+unfolding table placed target star_target behind_target next_target more_targets starred_set several_set parameter_name bracketed_names more_parameters default_value no_default behind_name named_parameter bracketed_parameter rest_parameter block_parameter sign_parameter simple_parameters parameters block_parameters brace_parts do_parts body_behind def_name def_in_brackets def_plain def_value plain_call lambda_block empty_brackets full_brackets lambda_call called arrow_parameters plain_block arrow_value then_sign else_part branch otherwise if_value unless_value loop_body while_value until_value when_clause case_value class_header rescue_clause body_else body_ensure handlers begin_value module_body class_value module_value keyword_form newlines behind_newlines paren closed brace_block do_block block tail paren_tail keyword_value word_value integer_value text ivar_value gvar_value top_constant word_list embedded interpolated parenthesized array label_key pair_in_braces hash_value name_call constant_value super_value yield_value prim dot_part scope_part bracket post not_level power_level minus_level product_level sum_level shift_level comparison_level equal_level equality_level and_level or_level range_level ternary argument command_arguments command_part splat item more_items splat_list other_items one_value nested_value right_side jump_value jump command_level block_argument label_pair arrow_pair arguments_from arguments cargs more_pairs method_name not_expression expression alias_statement undef_statement simple modifier statement line statement_list
 c_block_parameter r b = (λ x. omega arith, (λ x. omega arith, (refl, tt, tt)))
 
 c_sign : (r b : Bool) (s : Stage) → Checks table (sign_parameter r b s)
-unfolding table parameter_name bracketed_names more_parameters default_value no_default behind_name named_parameter bracketed_parameter rest_parameter block_parameter sign_parameter simple_parameters parameters block_parameters brace_parts do_parts body_behind def_name def_in_brackets def_plain def_value plain_call lambda_block empty_brackets full_brackets lambda_call called arrow_parameters plain_block arrow_value then_sign else_part branch otherwise if_value unless_value loop_body while_value until_value when_clause case_value class_header rescue_clause body_else body_ensure handlers begin_value module_body class_value module_value keyword_form newlines behind_newlines paren closed brace_block do_block block tail paren_tail keyword_value word_value integer_value text ivar_value gvar_value top_constant word_list embedded interpolated parenthesized array label_key pair_in_braces hash_value name_call constant_value super_value yield_value prim dot_part scope_part bracket post not_level power_level minus_level product_level sum_level shift_level comparison_level equal_level equality_level and_level or_level range_level ternary argument command_arguments command_part splat item more_items splat_list other_items one_value nested_value right_side jump_value jump command_level block_argument label_pair arrow_pair arguments_from arguments cargs more_pairs method_name not_expression expression alias_statement undef_statement simple modifier statement line statement_list
+unfolding table placed target star_target behind_target next_target more_targets starred_set several_set parameter_name bracketed_names more_parameters default_value no_default behind_name named_parameter bracketed_parameter rest_parameter block_parameter sign_parameter simple_parameters parameters block_parameters brace_parts do_parts body_behind def_name def_in_brackets def_plain def_value plain_call lambda_block empty_brackets full_brackets lambda_call called arrow_parameters plain_block arrow_value then_sign else_part branch otherwise if_value unless_value loop_body while_value until_value when_clause case_value class_header rescue_clause body_else body_ensure handlers begin_value module_body class_value module_value keyword_form newlines behind_newlines paren closed brace_block do_block block tail paren_tail keyword_value word_value integer_value text ivar_value gvar_value top_constant word_list embedded interpolated parenthesized array label_key pair_in_braces hash_value name_call constant_value super_value yield_value prim dot_part scope_part bracket post not_level power_level minus_level product_level sum_level shift_level comparison_level equal_level equality_level and_level or_level range_level ternary argument command_arguments command_part splat item more_items splat_list other_items one_value nested_value right_side jump_value jump command_level block_argument label_pair arrow_pair arguments_from arguments cargs more_pairs method_name not_expression expression alias_statement undef_statement simple modifier statement line statement_list
 c_sign r b stage.Plain = (refl, refl, c_rest r b, c_block_parameter r b)
 c_sign r b stage.Optional = (refl, refl, c_rest r b, c_block_parameter r b)
 c_sign r b stage.Rest = c_block_parameter r b
 c_sign r b stage.After = c_block_parameter r b
 
 c_simple_parameters : (r b : Bool) (s : Stage) → Checks table (simple_parameters r b s)
-unfolding table parameter_name bracketed_names more_parameters default_value no_default behind_name named_parameter bracketed_parameter rest_parameter block_parameter sign_parameter simple_parameters parameters block_parameters brace_parts do_parts body_behind def_name def_in_brackets def_plain def_value plain_call lambda_block empty_brackets full_brackets lambda_call called arrow_parameters plain_block arrow_value then_sign else_part branch otherwise if_value unless_value loop_body while_value until_value when_clause case_value class_header rescue_clause body_else body_ensure handlers begin_value module_body class_value module_value keyword_form newlines behind_newlines paren closed brace_block do_block block tail paren_tail keyword_value word_value integer_value text ivar_value gvar_value top_constant word_list embedded interpolated parenthesized array label_key pair_in_braces hash_value name_call constant_value super_value yield_value prim dot_part scope_part bracket post not_level power_level minus_level product_level sum_level shift_level comparison_level equal_level equality_level and_level or_level range_level ternary argument command_arguments command_part splat item more_items splat_list other_items one_value nested_value right_side jump_value jump command_level block_argument label_pair arrow_pair arguments_from arguments cargs more_pairs method_name not_expression expression alias_statement undef_statement simple modifier statement line statement_list
+unfolding table placed target star_target behind_target next_target more_targets starred_set several_set parameter_name bracketed_names more_parameters default_value no_default behind_name named_parameter bracketed_parameter rest_parameter block_parameter sign_parameter simple_parameters parameters block_parameters brace_parts do_parts body_behind def_name def_in_brackets def_plain def_value plain_call lambda_block empty_brackets full_brackets lambda_call called arrow_parameters plain_block arrow_value then_sign else_part branch otherwise if_value unless_value loop_body while_value until_value when_clause case_value class_header rescue_clause body_else body_ensure handlers begin_value module_body class_value module_value keyword_form newlines behind_newlines paren closed brace_block do_block block tail paren_tail keyword_value word_value integer_value text ivar_value gvar_value top_constant word_list embedded interpolated parenthesized array label_key pair_in_braces hash_value name_call constant_value super_value yield_value prim dot_part scope_part bracket post not_level power_level minus_level product_level sum_level shift_level comparison_level equal_level equality_level and_level or_level range_level ternary argument command_arguments command_part splat item more_items splat_list other_items one_value nested_value right_side jump_value jump command_level block_argument label_pair arrow_pair arguments_from arguments cargs more_pairs method_name not_expression expression alias_statement undef_statement simple modifier statement line statement_list
 c_simple_parameters r b stage.Plain = (refl, refl, c_named_parameter r b stage.Plain, c_sign r b stage.Plain)
 c_simple_parameters r b stage.Optional = (refl, refl, c_named_parameter r b stage.Optional, c_sign r b stage.Optional)
 c_simple_parameters r b stage.Rest = (refl, refl, c_named_parameter r b stage.Rest, c_sign r b stage.Rest)
 c_simple_parameters r b stage.After = (refl, refl, c_named_parameter r b stage.After, c_sign r b stage.After)
 
 pub c_parameters : (r b : Bool) (s : Stage) → Checks table (parameters r b s)
-unfolding table parameter_name bracketed_names more_parameters default_value no_default behind_name named_parameter bracketed_parameter rest_parameter block_parameter sign_parameter simple_parameters parameters block_parameters brace_parts do_parts body_behind def_name def_in_brackets def_plain def_value plain_call lambda_block empty_brackets full_brackets lambda_call called arrow_parameters plain_block arrow_value then_sign else_part branch otherwise if_value unless_value loop_body while_value until_value when_clause case_value class_header rescue_clause body_else body_ensure handlers begin_value module_body class_value module_value keyword_form newlines behind_newlines paren closed brace_block do_block block tail paren_tail keyword_value word_value integer_value text ivar_value gvar_value top_constant word_list embedded interpolated parenthesized array label_key pair_in_braces hash_value name_call constant_value super_value yield_value prim dot_part scope_part bracket post not_level power_level minus_level product_level sum_level shift_level comparison_level equal_level equality_level and_level or_level range_level ternary argument command_arguments command_part splat item more_items splat_list other_items one_value nested_value right_side jump_value jump command_level block_argument label_pair arrow_pair arguments_from arguments cargs more_pairs method_name not_expression expression alias_statement undef_statement simple modifier statement line statement_list
+unfolding table placed target star_target behind_target next_target more_targets starred_set several_set parameter_name bracketed_names more_parameters default_value no_default behind_name named_parameter bracketed_parameter rest_parameter block_parameter sign_parameter simple_parameters parameters block_parameters brace_parts do_parts body_behind def_name def_in_brackets def_plain def_value plain_call lambda_block empty_brackets full_brackets lambda_call called arrow_parameters plain_block arrow_value then_sign else_part branch otherwise if_value unless_value loop_body while_value until_value when_clause case_value class_header rescue_clause body_else body_ensure handlers begin_value module_body class_value module_value keyword_form newlines behind_newlines paren closed brace_block do_block block tail paren_tail keyword_value word_value integer_value text ivar_value gvar_value top_constant word_list embedded interpolated parenthesized array label_key pair_in_braces hash_value name_call constant_value super_value yield_value prim dot_part scope_part bracket post not_level power_level minus_level product_level sum_level shift_level comparison_level equal_level equality_level and_level or_level range_level ternary argument command_arguments command_part splat item more_items splat_list other_items one_value nested_value right_side jump_value jump command_level block_argument label_pair arrow_pair arguments_from arguments cargs more_pairs method_name not_expression expression alias_statement undef_statement simple modifier statement line statement_list
 c_parameters r true stage.Plain = (refl, refl, c_bracketed r true stage.Plain, c_simple_parameters r true stage.Plain)
 c_parameters r true stage.Optional = (refl, refl, c_bracketed r true stage.Optional, c_simple_parameters r true stage.Optional)
 c_parameters r true stage.Rest = (refl, refl, c_bracketed r true stage.Rest, c_simple_parameters r true stage.Rest)
@@ -203,15 +204,15 @@ c_parameters r false s = c_simple_parameters r false s
 -- ---- blocks
 
 c_block_parameters : (r : Bool) → Checks table (block_parameters r)
-unfolding table parameter_name bracketed_names more_parameters default_value no_default behind_name named_parameter bracketed_parameter rest_parameter block_parameter sign_parameter simple_parameters parameters block_parameters brace_parts do_parts body_behind def_name def_in_brackets def_plain def_value plain_call lambda_block empty_brackets full_brackets lambda_call called arrow_parameters plain_block arrow_value then_sign else_part branch otherwise if_value unless_value loop_body while_value until_value when_clause case_value class_header rescue_clause body_else body_ensure handlers begin_value module_body class_value module_value keyword_form newlines behind_newlines paren closed brace_block do_block block tail paren_tail keyword_value word_value integer_value text ivar_value gvar_value top_constant word_list embedded interpolated parenthesized array label_key pair_in_braces hash_value name_call constant_value super_value yield_value prim dot_part scope_part bracket post not_level power_level minus_level product_level sum_level shift_level comparison_level equal_level equality_level and_level or_level range_level ternary argument command_arguments command_part splat item more_items splat_list other_items one_value nested_value right_side jump_value jump command_level block_argument label_pair arrow_pair arguments_from arguments cargs more_pairs method_name not_expression expression alias_statement undef_statement simple modifier statement line statement_list
+unfolding table placed target star_target behind_target next_target more_targets starred_set several_set parameter_name bracketed_names more_parameters default_value no_default behind_name named_parameter bracketed_parameter rest_parameter block_parameter sign_parameter simple_parameters parameters block_parameters brace_parts do_parts body_behind def_name def_in_brackets def_plain def_value plain_call lambda_block empty_brackets full_brackets lambda_call called arrow_parameters plain_block arrow_value then_sign else_part branch otherwise if_value unless_value loop_body while_value until_value when_clause case_value class_header rescue_clause body_else body_ensure handlers begin_value module_body class_value module_value keyword_form newlines behind_newlines paren closed brace_block do_block block tail paren_tail keyword_value word_value integer_value text ivar_value gvar_value top_constant word_list embedded interpolated parenthesized array label_key pair_in_braces hash_value name_call constant_value super_value yield_value prim dot_part scope_part bracket post not_level power_level minus_level product_level sum_level shift_level comparison_level equal_level equality_level and_level or_level range_level ternary argument command_arguments command_part splat item more_items splat_list other_items one_value nested_value right_side jump_value jump command_level block_argument label_pair arrow_pair arguments_from arguments cargs more_pairs method_name not_expression expression alias_statement undef_statement simple modifier statement line statement_list
 c_block_parameters r = (refl, refl, (λ x. omega arith, (refl, tt, (λ x. omega arith, (refl, (refl, refl, tt, tt), tt)))), tt)
 
 c_brace_parts : (r : Bool) → Checks table (brace_parts r)
-unfolding table parameter_name bracketed_names more_parameters default_value no_default behind_name named_parameter bracketed_parameter rest_parameter block_parameter sign_parameter simple_parameters parameters block_parameters brace_parts do_parts body_behind def_name def_in_brackets def_plain def_value plain_call lambda_block empty_brackets full_brackets lambda_call called arrow_parameters plain_block arrow_value then_sign else_part branch otherwise if_value unless_value loop_body while_value until_value when_clause case_value class_header rescue_clause body_else body_ensure handlers begin_value module_body class_value module_value keyword_form newlines behind_newlines paren closed brace_block do_block block tail paren_tail keyword_value word_value integer_value text ivar_value gvar_value top_constant word_list embedded interpolated parenthesized array label_key pair_in_braces hash_value name_call constant_value super_value yield_value prim dot_part scope_part bracket post not_level power_level minus_level product_level sum_level shift_level comparison_level equal_level equality_level and_level or_level range_level ternary argument command_arguments command_part splat item more_items splat_list other_items one_value nested_value right_side jump_value jump command_level block_argument label_pair arrow_pair arguments_from arguments cargs more_pairs method_name not_expression expression alias_statement undef_statement simple modifier statement line statement_list
+unfolding table placed target star_target behind_target next_target more_targets starred_set several_set parameter_name bracketed_names more_parameters default_value no_default behind_name named_parameter bracketed_parameter rest_parameter block_parameter sign_parameter simple_parameters parameters block_parameters brace_parts do_parts body_behind def_name def_in_brackets def_plain def_value plain_call lambda_block empty_brackets full_brackets lambda_call called arrow_parameters plain_block arrow_value then_sign else_part branch otherwise if_value unless_value loop_body while_value until_value when_clause case_value class_header rescue_clause body_else body_ensure handlers begin_value module_body class_value module_value keyword_form newlines behind_newlines paren closed brace_block do_block block tail paren_tail keyword_value word_value integer_value text ivar_value gvar_value top_constant word_list embedded interpolated parenthesized array label_key pair_in_braces hash_value name_call constant_value super_value yield_value prim dot_part scope_part bracket post not_level power_level minus_level product_level sum_level shift_level comparison_level equal_level equality_level and_level or_level range_level ternary argument command_arguments command_part splat item more_items splat_list other_items one_value nested_value right_side jump_value jump command_level block_argument label_pair arrow_pair arguments_from arguments cargs more_pairs method_name not_expression expression alias_statement undef_statement simple modifier statement line statement_list
 c_brace_parts r = (refl, tt, (refl, c_block_parameters r, (refl, tt, tt)))
 
 c_do_parts : (r : Bool) → Checks table (do_parts r)
-unfolding table parameter_name bracketed_names more_parameters default_value no_default behind_name named_parameter bracketed_parameter rest_parameter block_parameter sign_parameter simple_parameters parameters block_parameters brace_parts do_parts body_behind def_name def_in_brackets def_plain def_value plain_call lambda_block empty_brackets full_brackets lambda_call called arrow_parameters plain_block arrow_value then_sign else_part branch otherwise if_value unless_value loop_body while_value until_value when_clause case_value class_header rescue_clause body_else body_ensure handlers begin_value module_body class_value module_value keyword_form newlines behind_newlines paren closed brace_block do_block block tail paren_tail keyword_value word_value integer_value text ivar_value gvar_value top_constant word_list embedded interpolated parenthesized array label_key pair_in_braces hash_value name_call constant_value super_value yield_value prim dot_part scope_part bracket post not_level power_level minus_level product_level sum_level shift_level comparison_level equal_level equality_level and_level or_level range_level ternary argument command_arguments command_part splat item more_items splat_list other_items one_value nested_value right_side jump_value jump command_level block_argument label_pair arrow_pair arguments_from arguments cargs more_pairs method_name not_expression expression alias_statement undef_statement simple modifier statement line statement_list
+unfolding table placed target star_target behind_target next_target more_targets starred_set several_set parameter_name bracketed_names more_parameters default_value no_default behind_name named_parameter bracketed_parameter rest_parameter block_parameter sign_parameter simple_parameters parameters block_parameters brace_parts do_parts body_behind def_name def_in_brackets def_plain def_value plain_call lambda_block empty_brackets full_brackets lambda_call called arrow_parameters plain_block arrow_value then_sign else_part branch otherwise if_value unless_value loop_body while_value until_value when_clause case_value class_header rescue_clause body_else body_ensure handlers begin_value module_body class_value module_value keyword_form newlines behind_newlines paren closed brace_block do_block block tail paren_tail keyword_value word_value integer_value text ivar_value gvar_value top_constant word_list embedded interpolated parenthesized array label_key pair_in_braces hash_value name_call constant_value super_value yield_value prim dot_part scope_part bracket post not_level power_level minus_level product_level sum_level shift_level comparison_level equal_level equality_level and_level or_level range_level ternary argument command_arguments command_part splat item more_items splat_list other_items one_value nested_value right_side jump_value jump command_level block_argument label_pair arrow_pair arguments_from arguments cargs more_pairs method_name not_expression expression alias_statement undef_statement simple modifier statement line statement_list
 c_do_parts r = (refl, tt, (refl, c_block_parameters r, (refl, tt, tt)))
 
 block_deep : (x : Seen × (act.Parameters × ((Node × ℕ) × Seen))) → depth_of (block_node x) ≡ suc (max (parameters_depth (x.1.0)) (depth_of (x.1.1.0.0)))
@@ -223,353 +224,353 @@ block_deep x = omega (
 )
 
 c_brace : (r : Bool) → Checks table (brace_block r)
-unfolding table parameter_name bracketed_names more_parameters default_value no_default behind_name named_parameter bracketed_parameter rest_parameter block_parameter sign_parameter simple_parameters parameters block_parameters brace_parts do_parts body_behind def_name def_in_brackets def_plain def_value plain_call lambda_block empty_brackets full_brackets lambda_call called arrow_parameters plain_block arrow_value then_sign else_part branch otherwise if_value unless_value loop_body while_value until_value when_clause case_value class_header rescue_clause body_else body_ensure handlers begin_value module_body class_value module_value keyword_form newlines behind_newlines paren closed brace_block do_block block tail paren_tail keyword_value word_value integer_value text ivar_value gvar_value top_constant word_list embedded interpolated parenthesized array label_key pair_in_braces hash_value name_call constant_value super_value yield_value prim dot_part scope_part bracket post not_level power_level minus_level product_level sum_level shift_level comparison_level equal_level equality_level and_level or_level range_level ternary argument command_arguments command_part splat item more_items splat_list other_items one_value nested_value right_side jump_value jump command_level block_argument label_pair arrow_pair arguments_from arguments cargs more_pairs method_name not_expression expression alias_statement undef_statement simple modifier statement line statement_list
+unfolding table placed target star_target behind_target next_target more_targets starred_set several_set parameter_name bracketed_names more_parameters default_value no_default behind_name named_parameter bracketed_parameter rest_parameter block_parameter sign_parameter simple_parameters parameters block_parameters brace_parts do_parts body_behind def_name def_in_brackets def_plain def_value plain_call lambda_block empty_brackets full_brackets lambda_call called arrow_parameters plain_block arrow_value then_sign else_part branch otherwise if_value unless_value loop_body while_value until_value when_clause case_value class_header rescue_clause body_else body_ensure handlers begin_value module_body class_value module_value keyword_form newlines behind_newlines paren closed brace_block do_block block tail paren_tail keyword_value word_value integer_value text ivar_value gvar_value top_constant word_list embedded interpolated parenthesized array label_key pair_in_braces hash_value name_call constant_value super_value yield_value prim dot_part scope_part bracket post not_level power_level minus_level product_level sum_level shift_level comparison_level equal_level equality_level and_level or_level range_level ternary argument command_arguments command_part splat item more_items splat_list other_items one_value nested_value right_side jump_value jump command_level block_argument label_pair arrow_pair arguments_from arguments cargs more_pairs method_name not_expression expression alias_statement undef_statement simple modifier statement line statement_list
 c_brace r = (λ x. omega (arith, block_deep x), c_brace_parts r)
 
 c_do : (r : Bool) → Checks table (do_block r)
-unfolding table parameter_name bracketed_names more_parameters default_value no_default behind_name named_parameter bracketed_parameter rest_parameter block_parameter sign_parameter simple_parameters parameters block_parameters brace_parts do_parts body_behind def_name def_in_brackets def_plain def_value plain_call lambda_block empty_brackets full_brackets lambda_call called arrow_parameters plain_block arrow_value then_sign else_part branch otherwise if_value unless_value loop_body while_value until_value when_clause case_value class_header rescue_clause body_else body_ensure handlers begin_value module_body class_value module_value keyword_form newlines behind_newlines paren closed brace_block do_block block tail paren_tail keyword_value word_value integer_value text ivar_value gvar_value top_constant word_list embedded interpolated parenthesized array label_key pair_in_braces hash_value name_call constant_value super_value yield_value prim dot_part scope_part bracket post not_level power_level minus_level product_level sum_level shift_level comparison_level equal_level equality_level and_level or_level range_level ternary argument command_arguments command_part splat item more_items splat_list other_items one_value nested_value right_side jump_value jump command_level block_argument label_pair arrow_pair arguments_from arguments cargs more_pairs method_name not_expression expression alias_statement undef_statement simple modifier statement line statement_list
+unfolding table placed target star_target behind_target next_target more_targets starred_set several_set parameter_name bracketed_names more_parameters default_value no_default behind_name named_parameter bracketed_parameter rest_parameter block_parameter sign_parameter simple_parameters parameters block_parameters brace_parts do_parts body_behind def_name def_in_brackets def_plain def_value plain_call lambda_block empty_brackets full_brackets lambda_call called arrow_parameters plain_block arrow_value then_sign else_part branch otherwise if_value unless_value loop_body while_value until_value when_clause case_value class_header rescue_clause body_else body_ensure handlers begin_value module_body class_value module_value keyword_form newlines behind_newlines paren closed brace_block do_block block tail paren_tail keyword_value word_value integer_value text ivar_value gvar_value top_constant word_list embedded interpolated parenthesized array label_key pair_in_braces hash_value name_call constant_value super_value yield_value prim dot_part scope_part bracket post not_level power_level minus_level product_level sum_level shift_level comparison_level equal_level equality_level and_level or_level range_level ternary argument command_arguments command_part splat item more_items splat_list other_items one_value nested_value right_side jump_value jump command_level block_argument label_pair arrow_pair arguments_from arguments cargs more_pairs method_name not_expression expression alias_statement undef_statement simple modifier statement line statement_list
 c_do r = (λ x. omega (arith, block_deep x), c_do_parts r)
 
 c_block : (d r : Bool) → Checks table (block r d)
-unfolding table parameter_name bracketed_names more_parameters default_value no_default behind_name named_parameter bracketed_parameter rest_parameter block_parameter sign_parameter simple_parameters parameters block_parameters brace_parts do_parts body_behind def_name def_in_brackets def_plain def_value plain_call lambda_block empty_brackets full_brackets lambda_call called arrow_parameters plain_block arrow_value then_sign else_part branch otherwise if_value unless_value loop_body while_value until_value when_clause case_value class_header rescue_clause body_else body_ensure handlers begin_value module_body class_value module_value keyword_form newlines behind_newlines paren closed brace_block do_block block tail paren_tail keyword_value word_value integer_value text ivar_value gvar_value top_constant word_list embedded interpolated parenthesized array label_key pair_in_braces hash_value name_call constant_value super_value yield_value prim dot_part scope_part bracket post not_level power_level minus_level product_level sum_level shift_level comparison_level equal_level equality_level and_level or_level range_level ternary argument command_arguments command_part splat item more_items splat_list other_items one_value nested_value right_side jump_value jump command_level block_argument label_pair arrow_pair arguments_from arguments cargs more_pairs method_name not_expression expression alias_statement undef_statement simple modifier statement line statement_list
+unfolding table placed target star_target behind_target next_target more_targets starred_set several_set parameter_name bracketed_names more_parameters default_value no_default behind_name named_parameter bracketed_parameter rest_parameter block_parameter sign_parameter simple_parameters parameters block_parameters brace_parts do_parts body_behind def_name def_in_brackets def_plain def_value plain_call lambda_block empty_brackets full_brackets lambda_call called arrow_parameters plain_block arrow_value then_sign else_part branch otherwise if_value unless_value loop_body while_value until_value when_clause case_value class_header rescue_clause body_else body_ensure handlers begin_value module_body class_value module_value keyword_form newlines behind_newlines paren closed brace_block do_block block tail paren_tail keyword_value word_value integer_value text ivar_value gvar_value top_constant word_list embedded interpolated parenthesized array label_key pair_in_braces hash_value name_call constant_value super_value yield_value prim dot_part scope_part bracket post not_level power_level minus_level product_level sum_level shift_level comparison_level equal_level equality_level and_level or_level range_level ternary argument command_arguments command_part splat item more_items splat_list other_items one_value nested_value right_side jump_value jump command_level block_argument label_pair arrow_pair arguments_from arguments cargs more_pairs method_name not_expression expression alias_statement undef_statement simple modifier statement line statement_list
 c_block true r = (refl, refl, c_brace r, c_do r)
 c_block false r = c_brace r
 
 c_beside : (d r pass : Bool) → Included table (first table (block_beside r d pass)) (begins_block r d) × Included table (continues table (block_beside r d pass)) (begins_block r d) × (nullable table (block_beside r d pass) ≡ true → true ≡ true) × Checks table (block_beside r d pass)
-unfolding table parameter_name bracketed_names more_parameters default_value no_default behind_name named_parameter bracketed_parameter rest_parameter block_parameter sign_parameter simple_parameters parameters block_parameters brace_parts do_parts body_behind def_name def_in_brackets def_plain def_value plain_call lambda_block empty_brackets full_brackets lambda_call called arrow_parameters plain_block arrow_value then_sign else_part branch otherwise if_value unless_value loop_body while_value until_value when_clause case_value class_header rescue_clause body_else body_ensure handlers begin_value module_body class_value module_value keyword_form newlines behind_newlines paren closed brace_block do_block block tail paren_tail keyword_value word_value integer_value text ivar_value gvar_value top_constant word_list embedded interpolated parenthesized array label_key pair_in_braces hash_value name_call constant_value super_value yield_value prim dot_part scope_part bracket post not_level power_level minus_level product_level sum_level shift_level comparison_level equal_level equality_level and_level or_level range_level ternary argument command_arguments command_part splat item more_items splat_list other_items one_value nested_value right_side jump_value jump command_level block_argument label_pair arrow_pair arguments_from arguments cargs more_pairs method_name not_expression expression alias_statement undef_statement simple modifier statement line statement_list
+unfolding table placed target star_target behind_target next_target more_targets starred_set several_set parameter_name bracketed_names more_parameters default_value no_default behind_name named_parameter bracketed_parameter rest_parameter block_parameter sign_parameter simple_parameters parameters block_parameters brace_parts do_parts body_behind def_name def_in_brackets def_plain def_value plain_call lambda_block empty_brackets full_brackets lambda_call called arrow_parameters plain_block arrow_value then_sign else_part branch otherwise if_value unless_value loop_body while_value until_value when_clause case_value class_header rescue_clause body_else body_ensure handlers begin_value module_body class_value module_value keyword_form newlines behind_newlines paren closed brace_block do_block block tail paren_tail keyword_value word_value integer_value text ivar_value gvar_value top_constant word_list embedded interpolated parenthesized array label_key pair_in_braces hash_value name_call constant_value super_value yield_value prim dot_part scope_part bracket post not_level power_level minus_level product_level sum_level shift_level comparison_level equal_level equality_level and_level or_level range_level ternary argument command_arguments command_part splat item more_items splat_list other_items one_value nested_value right_side jump_value jump command_level block_argument label_pair arrow_pair arguments_from arguments cargs more_pairs method_name not_expression expression alias_statement undef_statement simple modifier statement line statement_list
 c_beside true r true = (refl, refl, (λ h. refl), tt)
 c_beside true r false = (refl, refl, (λ h. refl), (refl, refl, (λ x. refl, c_block true r), tt))
 c_beside false r true = (refl, refl, (λ h. refl), tt)
 c_beside false r false = (refl, refl, (λ h. refl), (refl, refl, (λ x. refl, c_block false r), tt))
 
 c_tail : (d r : Bool) → Checks table (tail r d)
-unfolding table parameter_name bracketed_names more_parameters default_value no_default behind_name named_parameter bracketed_parameter rest_parameter block_parameter sign_parameter simple_parameters parameters block_parameters brace_parts do_parts body_behind def_name def_in_brackets def_plain def_value plain_call lambda_block empty_brackets full_brackets lambda_call called arrow_parameters plain_block arrow_value then_sign else_part branch otherwise if_value unless_value loop_body while_value until_value when_clause case_value class_header rescue_clause body_else body_ensure handlers begin_value module_body class_value module_value keyword_form newlines behind_newlines paren closed brace_block do_block block tail paren_tail keyword_value word_value integer_value text ivar_value gvar_value top_constant word_list embedded interpolated parenthesized array label_key pair_in_braces hash_value name_call constant_value super_value yield_value prim dot_part scope_part bracket post not_level power_level minus_level product_level sum_level shift_level comparison_level equal_level equality_level and_level or_level range_level ternary argument command_arguments command_part splat item more_items splat_list other_items one_value nested_value right_side jump_value jump command_level block_argument label_pair arrow_pair arguments_from arguments cargs more_pairs method_name not_expression expression alias_statement undef_statement simple modifier statement line statement_list
+unfolding table placed target star_target behind_target next_target more_targets starred_set several_set parameter_name bracketed_names more_parameters default_value no_default behind_name named_parameter bracketed_parameter rest_parameter block_parameter sign_parameter simple_parameters parameters block_parameters brace_parts do_parts body_behind def_name def_in_brackets def_plain def_value plain_call lambda_block empty_brackets full_brackets lambda_call called arrow_parameters plain_block arrow_value then_sign else_part branch otherwise if_value unless_value loop_body while_value until_value when_clause case_value class_header rescue_clause body_else body_ensure handlers begin_value module_body class_value module_value keyword_form newlines behind_newlines paren closed brace_block do_block block tail paren_tail keyword_value word_value integer_value text ivar_value gvar_value top_constant word_list embedded interpolated parenthesized array label_key pair_in_braces hash_value name_call constant_value super_value yield_value prim dot_part scope_part bracket post not_level power_level minus_level product_level sum_level shift_level comparison_level equal_level equality_level and_level or_level range_level ternary argument command_arguments command_part splat item more_items splat_list other_items one_value nested_value right_side jump_value jump command_level block_argument label_pair arrow_pair arguments_from arguments cargs more_pairs method_name not_expression expression alias_statement undef_statement simple modifier statement line statement_list
 c_tail true r = (refl, (refl, refl, (λ x. refl, c_paren r true), tt), λ x. c_beside true r (is_some (act.block_pass x)))
 c_tail false r = (refl, (refl, refl, (λ x. refl, c_paren r true), tt), λ x. c_beside false r (is_some (act.block_pass x)))
 
 c_paren_tail : (d r : Bool) → Checks table (paren_tail r d)
-unfolding table parameter_name bracketed_names more_parameters default_value no_default behind_name named_parameter bracketed_parameter rest_parameter block_parameter sign_parameter simple_parameters parameters block_parameters brace_parts do_parts body_behind def_name def_in_brackets def_plain def_value plain_call lambda_block empty_brackets full_brackets lambda_call called arrow_parameters plain_block arrow_value then_sign else_part branch otherwise if_value unless_value loop_body while_value until_value when_clause case_value class_header rescue_clause body_else body_ensure handlers begin_value module_body class_value module_value keyword_form newlines behind_newlines paren closed brace_block do_block block tail paren_tail keyword_value word_value integer_value text ivar_value gvar_value top_constant word_list embedded interpolated parenthesized array label_key pair_in_braces hash_value name_call constant_value super_value yield_value prim dot_part scope_part bracket post not_level power_level minus_level product_level sum_level shift_level comparison_level equal_level equality_level and_level or_level range_level ternary argument command_arguments command_part splat item more_items splat_list other_items one_value nested_value right_side jump_value jump command_level block_argument label_pair arrow_pair arguments_from arguments cargs more_pairs method_name not_expression expression alias_statement undef_statement simple modifier statement line statement_list
+unfolding table placed target star_target behind_target next_target more_targets starred_set several_set parameter_name bracketed_names more_parameters default_value no_default behind_name named_parameter bracketed_parameter rest_parameter block_parameter sign_parameter simple_parameters parameters block_parameters brace_parts do_parts body_behind def_name def_in_brackets def_plain def_value plain_call lambda_block empty_brackets full_brackets lambda_call called arrow_parameters plain_block arrow_value then_sign else_part branch otherwise if_value unless_value loop_body while_value until_value when_clause case_value class_header rescue_clause body_else body_ensure handlers begin_value module_body class_value module_value keyword_form newlines behind_newlines paren closed brace_block do_block block tail paren_tail keyword_value word_value integer_value text ivar_value gvar_value top_constant word_list embedded interpolated parenthesized array label_key pair_in_braces hash_value name_call constant_value super_value yield_value prim dot_part scope_part bracket post not_level power_level minus_level product_level sum_level shift_level comparison_level equal_level equality_level and_level or_level range_level ternary argument command_arguments command_part splat item more_items splat_list other_items one_value nested_value right_side jump_value jump command_level block_argument label_pair arrow_pair arguments_from arguments cargs more_pairs method_name not_expression expression alias_statement undef_statement simple modifier statement line statement_list
 c_paren_tail true r = (refl, (λ x. refl, c_paren r true), λ x. c_beside true r (is_some (act.block_pass x)))
 c_paren_tail false r = (refl, (λ x. refl, c_paren r true), λ x. c_beside false r (is_some (act.block_pass x)))
 
 c_keyword : (w : Word) (k : Kind) → ((s : Span) (m : Pos) → depth_of (make k s m) ≡ 1) → Checks table (keyword_value w k)
-unfolding table parameter_name bracketed_names more_parameters default_value no_default behind_name named_parameter bracketed_parameter rest_parameter block_parameter sign_parameter simple_parameters parameters block_parameters brace_parts do_parts body_behind def_name def_in_brackets def_plain def_value plain_call lambda_block empty_brackets full_brackets lambda_call called arrow_parameters plain_block arrow_value then_sign else_part branch otherwise if_value unless_value loop_body while_value until_value when_clause case_value class_header rescue_clause body_else body_ensure handlers begin_value module_body class_value module_value keyword_form newlines behind_newlines paren closed brace_block do_block block tail paren_tail keyword_value word_value integer_value text ivar_value gvar_value top_constant word_list embedded interpolated parenthesized array label_key pair_in_braces hash_value name_call constant_value super_value yield_value prim dot_part scope_part bracket post not_level power_level minus_level product_level sum_level shift_level comparison_level equal_level equality_level and_level or_level range_level ternary argument command_arguments command_part splat item more_items splat_list other_items one_value nested_value right_side jump_value jump command_level block_argument label_pair arrow_pair arguments_from arguments cargs more_pairs method_name not_expression expression alias_statement undef_statement simple modifier statement line statement_list
+unfolding table placed target star_target behind_target next_target more_targets starred_set several_set parameter_name bracketed_names more_parameters default_value no_default behind_name named_parameter bracketed_parameter rest_parameter block_parameter sign_parameter simple_parameters parameters block_parameters brace_parts do_parts body_behind def_name def_in_brackets def_plain def_value plain_call lambda_block empty_brackets full_brackets lambda_call called arrow_parameters plain_block arrow_value then_sign else_part branch otherwise if_value unless_value loop_body while_value until_value when_clause case_value class_header rescue_clause body_else body_ensure handlers begin_value module_body class_value module_value keyword_form newlines behind_newlines paren closed brace_block do_block block tail paren_tail keyword_value word_value integer_value text ivar_value gvar_value top_constant word_list embedded interpolated parenthesized array label_key pair_in_braces hash_value name_call constant_value super_value yield_value prim dot_part scope_part bracket post not_level power_level minus_level product_level sum_level shift_level comparison_level equal_level equality_level and_level or_level range_level ternary argument command_arguments command_part splat item more_items splat_list other_items one_value nested_value right_side jump_value jump command_level block_argument label_pair arrow_pair arguments_from arguments cargs more_pairs method_name not_expression expression alias_statement undef_statement simple modifier statement line statement_list
 c_keyword w k e = (λ t. e (act.span_of t) (act.start t), tt)
 
 c_word : Checks table (word_value)
-unfolding table parameter_name bracketed_names more_parameters default_value no_default behind_name named_parameter bracketed_parameter rest_parameter block_parameter sign_parameter simple_parameters parameters block_parameters brace_parts do_parts body_behind def_name def_in_brackets def_plain def_value plain_call lambda_block empty_brackets full_brackets lambda_call called arrow_parameters plain_block arrow_value then_sign else_part branch otherwise if_value unless_value loop_body while_value until_value when_clause case_value class_header rescue_clause body_else body_ensure handlers begin_value module_body class_value module_value keyword_form newlines behind_newlines paren closed brace_block do_block block tail paren_tail keyword_value word_value integer_value text ivar_value gvar_value top_constant word_list embedded interpolated parenthesized array label_key pair_in_braces hash_value name_call constant_value super_value yield_value prim dot_part scope_part bracket post not_level power_level minus_level product_level sum_level shift_level comparison_level equal_level equality_level and_level or_level range_level ternary argument command_arguments command_part splat item more_items splat_list other_items one_value nested_value right_side jump_value jump command_level block_argument label_pair arrow_pair arguments_from arguments cargs more_pairs method_name not_expression expression alias_statement undef_statement simple modifier statement line statement_list
+unfolding table placed target star_target behind_target next_target more_targets starred_set several_set parameter_name bracketed_names more_parameters default_value no_default behind_name named_parameter bracketed_parameter rest_parameter block_parameter sign_parameter simple_parameters parameters block_parameters brace_parts do_parts body_behind def_name def_in_brackets def_plain def_value plain_call lambda_block empty_brackets full_brackets lambda_call called arrow_parameters plain_block arrow_value then_sign else_part branch otherwise if_value unless_value loop_body while_value until_value when_clause case_value class_header rescue_clause body_else body_ensure handlers begin_value module_body class_value module_value keyword_form newlines behind_newlines paren closed brace_block do_block block tail paren_tail keyword_value word_value integer_value text ivar_value gvar_value top_constant word_list embedded interpolated parenthesized array label_key pair_in_braces hash_value name_call constant_value super_value yield_value prim dot_part scope_part bracket post not_level power_level minus_level product_level sum_level shift_level comparison_level equal_level equality_level and_level or_level range_level ternary argument command_arguments command_part splat item more_items splat_list other_items one_value nested_value right_side jump_value jump command_level block_argument label_pair arrow_pair arguments_from arguments cargs more_pairs method_name not_expression expression alias_statement undef_statement simple modifier statement line statement_list
 c_word = (refl, refl, c_keyword word.Nil (kind.Lit literal.Nil) (λ s m. d.depth_lit literal.Nil s m), (refl, refl, c_keyword word.True (kind.Lit literal.True) (λ s m. d.depth_lit literal.True s m), (refl, refl, c_keyword word.False (kind.Lit literal.False) (λ s m. d.depth_lit literal.False s m), (refl, refl, c_keyword word.Self_ kind.SelfRef (λ s m. d.depth_self_ref s m), c_keyword word.Retry kind.Retry (λ s m. d.depth_retry s m)))))
 
 c_integer : Checks table (integer_value)
-unfolding table parameter_name bracketed_names more_parameters default_value no_default behind_name named_parameter bracketed_parameter rest_parameter block_parameter sign_parameter simple_parameters parameters block_parameters brace_parts do_parts body_behind def_name def_in_brackets def_plain def_value plain_call lambda_block empty_brackets full_brackets lambda_call called arrow_parameters plain_block arrow_value then_sign else_part branch otherwise if_value unless_value loop_body while_value until_value when_clause case_value class_header rescue_clause body_else body_ensure handlers begin_value module_body class_value module_value keyword_form newlines behind_newlines paren closed brace_block do_block block tail paren_tail keyword_value word_value integer_value text ivar_value gvar_value top_constant word_list embedded interpolated parenthesized array label_key pair_in_braces hash_value name_call constant_value super_value yield_value prim dot_part scope_part bracket post not_level power_level minus_level product_level sum_level shift_level comparison_level equal_level equality_level and_level or_level range_level ternary argument command_arguments command_part splat item more_items splat_list other_items one_value nested_value right_side jump_value jump command_level block_argument label_pair arrow_pair arguments_from arguments cargs more_pairs method_name not_expression expression alias_statement undef_statement simple modifier statement line statement_list
+unfolding table placed target star_target behind_target next_target more_targets starred_set several_set parameter_name bracketed_names more_parameters default_value no_default behind_name named_parameter bracketed_parameter rest_parameter block_parameter sign_parameter simple_parameters parameters block_parameters brace_parts do_parts body_behind def_name def_in_brackets def_plain def_value plain_call lambda_block empty_brackets full_brackets lambda_call called arrow_parameters plain_block arrow_value then_sign else_part branch otherwise if_value unless_value loop_body while_value until_value when_clause case_value class_header rescue_clause body_else body_ensure handlers begin_value module_body class_value module_value keyword_form newlines behind_newlines paren closed brace_block do_block block tail paren_tail keyword_value word_value integer_value text ivar_value gvar_value top_constant word_list embedded interpolated parenthesized array label_key pair_in_braces hash_value name_call constant_value super_value yield_value prim dot_part scope_part bracket post not_level power_level minus_level product_level sum_level shift_level comparison_level equal_level equality_level and_level or_level range_level ternary argument command_arguments command_part splat item more_items splat_list other_items one_value nested_value right_side jump_value jump command_level block_argument label_pair arrow_pair arguments_from arguments cargs more_pairs method_name not_expression expression alias_statement undef_statement simple modifier statement line statement_list
 c_integer = (λ t. d.depth_int (act.integer t) (act.span_of t) (act.start t), tt)
 
 c_text : Checks table (text)
-unfolding table parameter_name bracketed_names more_parameters default_value no_default behind_name named_parameter bracketed_parameter rest_parameter block_parameter sign_parameter simple_parameters parameters block_parameters brace_parts do_parts body_behind def_name def_in_brackets def_plain def_value plain_call lambda_block empty_brackets full_brackets lambda_call called arrow_parameters plain_block arrow_value then_sign else_part branch otherwise if_value unless_value loop_body while_value until_value when_clause case_value class_header rescue_clause body_else body_ensure handlers begin_value module_body class_value module_value keyword_form newlines behind_newlines paren closed brace_block do_block block tail paren_tail keyword_value word_value integer_value text ivar_value gvar_value top_constant word_list embedded interpolated parenthesized array label_key pair_in_braces hash_value name_call constant_value super_value yield_value prim dot_part scope_part bracket post not_level power_level minus_level product_level sum_level shift_level comparison_level equal_level equality_level and_level or_level range_level ternary argument command_arguments command_part splat item more_items splat_list other_items one_value nested_value right_side jump_value jump command_level block_argument label_pair arrow_pair arguments_from arguments cargs more_pairs method_name not_expression expression alias_statement undef_statement simple modifier statement line statement_list
+unfolding table placed target star_target behind_target next_target more_targets starred_set several_set parameter_name bracketed_names more_parameters default_value no_default behind_name named_parameter bracketed_parameter rest_parameter block_parameter sign_parameter simple_parameters parameters block_parameters brace_parts do_parts body_behind def_name def_in_brackets def_plain def_value plain_call lambda_block empty_brackets full_brackets lambda_call called arrow_parameters plain_block arrow_value then_sign else_part branch otherwise if_value unless_value loop_body while_value until_value when_clause case_value class_header rescue_clause body_else body_ensure handlers begin_value module_body class_value module_value keyword_form newlines behind_newlines paren closed brace_block do_block block tail paren_tail keyword_value word_value integer_value text ivar_value gvar_value top_constant word_list embedded interpolated parenthesized array label_key pair_in_braces hash_value name_call constant_value super_value yield_value prim dot_part scope_part bracket post not_level power_level minus_level product_level sum_level shift_level comparison_level equal_level equality_level and_level or_level range_level ternary argument command_arguments command_part splat item more_items splat_list other_items one_value nested_value right_side jump_value jump command_level block_argument label_pair arrow_pair arguments_from arguments cargs more_pairs method_name not_expression expression alias_statement undef_statement simple modifier statement line statement_list
 c_text = (λ t. d.depth_str (act.units t) (act.span_of t) (act.start t), tt)
 
 c_ivar : Checks table (ivar_value)
-unfolding table parameter_name bracketed_names more_parameters default_value no_default behind_name named_parameter bracketed_parameter rest_parameter block_parameter sign_parameter simple_parameters parameters block_parameters brace_parts do_parts body_behind def_name def_in_brackets def_plain def_value plain_call lambda_block empty_brackets full_brackets lambda_call called arrow_parameters plain_block arrow_value then_sign else_part branch otherwise if_value unless_value loop_body while_value until_value when_clause case_value class_header rescue_clause body_else body_ensure handlers begin_value module_body class_value module_value keyword_form newlines behind_newlines paren closed brace_block do_block block tail paren_tail keyword_value word_value integer_value text ivar_value gvar_value top_constant word_list embedded interpolated parenthesized array label_key pair_in_braces hash_value name_call constant_value super_value yield_value prim dot_part scope_part bracket post not_level power_level minus_level product_level sum_level shift_level comparison_level equal_level equality_level and_level or_level range_level ternary argument command_arguments command_part splat item more_items splat_list other_items one_value nested_value right_side jump_value jump command_level block_argument label_pair arrow_pair arguments_from arguments cargs more_pairs method_name not_expression expression alias_statement undef_statement simple modifier statement line statement_list
+unfolding table placed target star_target behind_target next_target more_targets starred_set several_set parameter_name bracketed_names more_parameters default_value no_default behind_name named_parameter bracketed_parameter rest_parameter block_parameter sign_parameter simple_parameters parameters block_parameters brace_parts do_parts body_behind def_name def_in_brackets def_plain def_value plain_call lambda_block empty_brackets full_brackets lambda_call called arrow_parameters plain_block arrow_value then_sign else_part branch otherwise if_value unless_value loop_body while_value until_value when_clause case_value class_header rescue_clause body_else body_ensure handlers begin_value module_body class_value module_value keyword_form newlines behind_newlines paren closed brace_block do_block block tail paren_tail keyword_value word_value integer_value text ivar_value gvar_value top_constant word_list embedded interpolated parenthesized array label_key pair_in_braces hash_value name_call constant_value super_value yield_value prim dot_part scope_part bracket post not_level power_level minus_level product_level sum_level shift_level comparison_level equal_level equality_level and_level or_level range_level ternary argument command_arguments command_part splat item more_items splat_list other_items one_value nested_value right_side jump_value jump command_level block_argument label_pair arrow_pair arguments_from arguments cargs more_pairs method_name not_expression expression alias_statement undef_statement simple modifier statement line statement_list
 c_ivar = (λ t. d.depth_ivar_get (act.units t) (act.span_of t) (act.start t), tt)
 
 c_gvar : Checks table (gvar_value)
-unfolding table parameter_name bracketed_names more_parameters default_value no_default behind_name named_parameter bracketed_parameter rest_parameter block_parameter sign_parameter simple_parameters parameters block_parameters brace_parts do_parts body_behind def_name def_in_brackets def_plain def_value plain_call lambda_block empty_brackets full_brackets lambda_call called arrow_parameters plain_block arrow_value then_sign else_part branch otherwise if_value unless_value loop_body while_value until_value when_clause case_value class_header rescue_clause body_else body_ensure handlers begin_value module_body class_value module_value keyword_form newlines behind_newlines paren closed brace_block do_block block tail paren_tail keyword_value word_value integer_value text ivar_value gvar_value top_constant word_list embedded interpolated parenthesized array label_key pair_in_braces hash_value name_call constant_value super_value yield_value prim dot_part scope_part bracket post not_level power_level minus_level product_level sum_level shift_level comparison_level equal_level equality_level and_level or_level range_level ternary argument command_arguments command_part splat item more_items splat_list other_items one_value nested_value right_side jump_value jump command_level block_argument label_pair arrow_pair arguments_from arguments cargs more_pairs method_name not_expression expression alias_statement undef_statement simple modifier statement line statement_list
+unfolding table placed target star_target behind_target next_target more_targets starred_set several_set parameter_name bracketed_names more_parameters default_value no_default behind_name named_parameter bracketed_parameter rest_parameter block_parameter sign_parameter simple_parameters parameters block_parameters brace_parts do_parts body_behind def_name def_in_brackets def_plain def_value plain_call lambda_block empty_brackets full_brackets lambda_call called arrow_parameters plain_block arrow_value then_sign else_part branch otherwise if_value unless_value loop_body while_value until_value when_clause case_value class_header rescue_clause body_else body_ensure handlers begin_value module_body class_value module_value keyword_form newlines behind_newlines paren closed brace_block do_block block tail paren_tail keyword_value word_value integer_value text ivar_value gvar_value top_constant word_list embedded interpolated parenthesized array label_key pair_in_braces hash_value name_call constant_value super_value yield_value prim dot_part scope_part bracket post not_level power_level minus_level product_level sum_level shift_level comparison_level equal_level equality_level and_level or_level range_level ternary argument command_arguments command_part splat item more_items splat_list other_items one_value nested_value right_side jump_value jump command_level block_argument label_pair arrow_pair arguments_from arguments cargs more_pairs method_name not_expression expression alias_statement undef_statement simple modifier statement line statement_list
 c_gvar = (λ t. d.depth_global_get (act.units t) (act.span_of t) (act.start t), tt)
 
 c_top : Checks table (top_constant)
-unfolding table parameter_name bracketed_names more_parameters default_value no_default behind_name named_parameter bracketed_parameter rest_parameter block_parameter sign_parameter simple_parameters parameters block_parameters brace_parts do_parts body_behind def_name def_in_brackets def_plain def_value plain_call lambda_block empty_brackets full_brackets lambda_call called arrow_parameters plain_block arrow_value then_sign else_part branch otherwise if_value unless_value loop_body while_value until_value when_clause case_value class_header rescue_clause body_else body_ensure handlers begin_value module_body class_value module_value keyword_form newlines behind_newlines paren closed brace_block do_block block tail paren_tail keyword_value word_value integer_value text ivar_value gvar_value top_constant word_list embedded interpolated parenthesized array label_key pair_in_braces hash_value name_call constant_value super_value yield_value prim dot_part scope_part bracket post not_level power_level minus_level product_level sum_level shift_level comparison_level equal_level equality_level and_level or_level range_level ternary argument command_arguments command_part splat item more_items splat_list other_items one_value nested_value right_side jump_value jump command_level block_argument label_pair arrow_pair arguments_from arguments cargs more_pairs method_name not_expression expression alias_statement undef_statement simple modifier statement line statement_list
+unfolding table placed target star_target behind_target next_target more_targets starred_set several_set parameter_name bracketed_names more_parameters default_value no_default behind_name named_parameter bracketed_parameter rest_parameter block_parameter sign_parameter simple_parameters parameters block_parameters brace_parts do_parts body_behind def_name def_in_brackets def_plain def_value plain_call lambda_block empty_brackets full_brackets lambda_call called arrow_parameters plain_block arrow_value then_sign else_part branch otherwise if_value unless_value loop_body while_value until_value when_clause case_value class_header rescue_clause body_else body_ensure handlers begin_value module_body class_value module_value keyword_form newlines behind_newlines paren closed brace_block do_block block tail paren_tail keyword_value word_value integer_value text ivar_value gvar_value top_constant word_list embedded interpolated parenthesized array label_key pair_in_braces hash_value name_call constant_value super_value yield_value prim dot_part scope_part bracket post not_level power_level minus_level product_level sum_level shift_level comparison_level equal_level equality_level and_level or_level range_level ternary argument command_arguments command_part splat item more_items splat_list other_items one_value nested_value right_side jump_value jump command_level block_argument label_pair arrow_pair arguments_from arguments cargs more_pairs method_name not_expression expression alias_statement undef_statement simple modifier statement line statement_list
 c_top = (λ x. omega (arith, d.depth_const_get base.Top (act.units x.1) (act.tokens x.0 x.1) (act.start x.1), d.depth_top), (refl, tt, tt))
 
 c_words : Checks table (word_list)
-unfolding table parameter_name bracketed_names more_parameters default_value no_default behind_name named_parameter bracketed_parameter rest_parameter block_parameter sign_parameter simple_parameters parameters block_parameters brace_parts do_parts body_behind def_name def_in_brackets def_plain def_value plain_call lambda_block empty_brackets full_brackets lambda_call called arrow_parameters plain_block arrow_value then_sign else_part branch otherwise if_value unless_value loop_body while_value until_value when_clause case_value class_header rescue_clause body_else body_ensure handlers begin_value module_body class_value module_value keyword_form newlines behind_newlines paren closed brace_block do_block block tail paren_tail keyword_value word_value integer_value text ivar_value gvar_value top_constant word_list embedded interpolated parenthesized array label_key pair_in_braces hash_value name_call constant_value super_value yield_value prim dot_part scope_part bracket post not_level power_level minus_level product_level sum_level shift_level comparison_level equal_level equality_level and_level or_level range_level ternary argument command_arguments command_part splat item more_items splat_list other_items one_value nested_value right_side jump_value jump command_level block_argument label_pair arrow_pair arguments_from arguments cargs more_pairs method_name not_expression expression alias_statement undef_statement simple modifier statement line statement_list
+unfolding table placed target star_target behind_target next_target more_targets starred_set several_set parameter_name bracketed_names more_parameters default_value no_default behind_name named_parameter bracketed_parameter rest_parameter block_parameter sign_parameter simple_parameters parameters block_parameters brace_parts do_parts body_behind def_name def_in_brackets def_plain def_value plain_call lambda_block empty_brackets full_brackets lambda_call called arrow_parameters plain_block arrow_value then_sign else_part branch otherwise if_value unless_value loop_body while_value until_value when_clause case_value class_header rescue_clause body_else body_ensure handlers begin_value module_body class_value module_value keyword_form newlines behind_newlines paren closed brace_block do_block block tail paren_tail keyword_value word_value integer_value text ivar_value gvar_value top_constant word_list embedded interpolated parenthesized array label_key pair_in_braces hash_value name_call constant_value super_value yield_value prim dot_part scope_part bracket post not_level power_level minus_level product_level sum_level shift_level comparison_level equal_level equality_level and_level or_level range_level ternary argument command_arguments command_part splat item more_items splat_list other_items one_value nested_value right_side jump_value jump command_level block_argument label_pair arrow_pair arguments_from arguments cargs more_pairs method_name not_expression expression alias_statement undef_statement simple modifier statement line statement_list
 c_words = (λ x. omega (arith, d.depth_array_lit (x.1.0) (act.tokens x.0 x.1.1) (act.start x.0)), (refl, tt, (refl, (refl, refl, c_text), tt)))
 
 c_embedded : (r : Bool) → Checks table (embedded r)
-unfolding table parameter_name bracketed_names more_parameters default_value no_default behind_name named_parameter bracketed_parameter rest_parameter block_parameter sign_parameter simple_parameters parameters block_parameters brace_parts do_parts body_behind def_name def_in_brackets def_plain def_value plain_call lambda_block empty_brackets full_brackets lambda_call called arrow_parameters plain_block arrow_value then_sign else_part branch otherwise if_value unless_value loop_body while_value until_value when_clause case_value class_header rescue_clause body_else body_ensure handlers begin_value module_body class_value module_value keyword_form newlines behind_newlines paren closed brace_block do_block block tail paren_tail keyword_value word_value integer_value text ivar_value gvar_value top_constant word_list embedded interpolated parenthesized array label_key pair_in_braces hash_value name_call constant_value super_value yield_value prim dot_part scope_part bracket post not_level power_level minus_level product_level sum_level shift_level comparison_level equal_level equality_level and_level or_level range_level ternary argument command_arguments command_part splat item more_items splat_list other_items one_value nested_value right_side jump_value jump command_level block_argument label_pair arrow_pair arguments_from arguments cargs more_pairs method_name not_expression expression alias_statement undef_statement simple modifier statement line statement_list
+unfolding table placed target star_target behind_target next_target more_targets starred_set several_set parameter_name bracketed_names more_parameters default_value no_default behind_name named_parameter bracketed_parameter rest_parameter block_parameter sign_parameter simple_parameters parameters block_parameters brace_parts do_parts body_behind def_name def_in_brackets def_plain def_value plain_call lambda_block empty_brackets full_brackets lambda_call called arrow_parameters plain_block arrow_value then_sign else_part branch otherwise if_value unless_value loop_body while_value until_value when_clause case_value class_header rescue_clause body_else body_ensure handlers begin_value module_body class_value module_value keyword_form newlines behind_newlines paren closed brace_block do_block block tail paren_tail keyword_value word_value integer_value text ivar_value gvar_value top_constant word_list embedded interpolated parenthesized array label_key pair_in_braces hash_value name_call constant_value super_value yield_value prim dot_part scope_part bracket post not_level power_level minus_level product_level sum_level shift_level comparison_level equal_level equality_level and_level or_level range_level ternary argument command_arguments command_part splat item more_items splat_list other_items one_value nested_value right_side jump_value jump command_level block_argument label_pair arrow_pair arguments_from arguments cargs more_pairs method_name not_expression expression alias_statement undef_statement simple modifier statement line statement_list
 c_embedded r = (λ x. omega (arith, filled_deep (act.tokens x.0 x.1.1) x.1.0), (refl, tt, (refl, tt, tt)))
 
 c_interpolated : (r : Bool) → Checks table (interpolated r)
-unfolding table parameter_name bracketed_names more_parameters default_value no_default behind_name named_parameter bracketed_parameter rest_parameter block_parameter sign_parameter simple_parameters parameters block_parameters brace_parts do_parts body_behind def_name def_in_brackets def_plain def_value plain_call lambda_block empty_brackets full_brackets lambda_call called arrow_parameters plain_block arrow_value then_sign else_part branch otherwise if_value unless_value loop_body while_value until_value when_clause case_value class_header rescue_clause body_else body_ensure handlers begin_value module_body class_value module_value keyword_form newlines behind_newlines paren closed brace_block do_block block tail paren_tail keyword_value word_value integer_value text ivar_value gvar_value top_constant word_list embedded interpolated parenthesized array label_key pair_in_braces hash_value name_call constant_value super_value yield_value prim dot_part scope_part bracket post not_level power_level minus_level product_level sum_level shift_level comparison_level equal_level equality_level and_level or_level range_level ternary argument command_arguments command_part splat item more_items splat_list other_items one_value nested_value right_side jump_value jump command_level block_argument label_pair arrow_pair arguments_from arguments cargs more_pairs method_name not_expression expression alias_statement undef_statement simple modifier statement line statement_list
+unfolding table placed target star_target behind_target next_target more_targets starred_set several_set parameter_name bracketed_names more_parameters default_value no_default behind_name named_parameter bracketed_parameter rest_parameter block_parameter sign_parameter simple_parameters parameters block_parameters brace_parts do_parts body_behind def_name def_in_brackets def_plain def_value plain_call lambda_block empty_brackets full_brackets lambda_call called arrow_parameters plain_block arrow_value then_sign else_part branch otherwise if_value unless_value loop_body while_value until_value when_clause case_value class_header rescue_clause body_else body_ensure handlers begin_value module_body class_value module_value keyword_form newlines behind_newlines paren closed brace_block do_block block tail paren_tail keyword_value word_value integer_value text ivar_value gvar_value top_constant word_list embedded interpolated parenthesized array label_key pair_in_braces hash_value name_call constant_value super_value yield_value prim dot_part scope_part bracket post not_level power_level minus_level product_level sum_level shift_level comparison_level equal_level equality_level and_level or_level range_level ternary argument command_arguments command_part splat item more_items splat_list other_items one_value nested_value right_side jump_value jump command_level block_argument label_pair arrow_pair arguments_from arguments cargs more_pairs method_name not_expression expression alias_statement undef_statement simple modifier statement line statement_list
 c_interpolated r = (λ x. omega (arith, d.depth_interp (x.1.0) (act.tokens x.0 x.1.1) (act.start x.0)), (refl, tt, (refl, (refl, refl, (refl, refl, c_text, c_embedded r)), tt)))
 
 c_parenthesized : (r : Bool) → Checks table (parenthesized r)
-unfolding table parameter_name bracketed_names more_parameters default_value no_default behind_name named_parameter bracketed_parameter rest_parameter block_parameter sign_parameter simple_parameters parameters block_parameters brace_parts do_parts body_behind def_name def_in_brackets def_plain def_value plain_call lambda_block empty_brackets full_brackets lambda_call called arrow_parameters plain_block arrow_value then_sign else_part branch otherwise if_value unless_value loop_body while_value until_value when_clause case_value class_header rescue_clause body_else body_ensure handlers begin_value module_body class_value module_value keyword_form newlines behind_newlines paren closed brace_block do_block block tail paren_tail keyword_value word_value integer_value text ivar_value gvar_value top_constant word_list embedded interpolated parenthesized array label_key pair_in_braces hash_value name_call constant_value super_value yield_value prim dot_part scope_part bracket post not_level power_level minus_level product_level sum_level shift_level comparison_level equal_level equality_level and_level or_level range_level ternary argument command_arguments command_part splat item more_items splat_list other_items one_value nested_value right_side jump_value jump command_level block_argument label_pair arrow_pair arguments_from arguments cargs more_pairs method_name not_expression expression alias_statement undef_statement simple modifier statement line statement_list
+unfolding table placed target star_target behind_target next_target more_targets starred_set several_set parameter_name bracketed_names more_parameters default_value no_default behind_name named_parameter bracketed_parameter rest_parameter block_parameter sign_parameter simple_parameters parameters block_parameters brace_parts do_parts body_behind def_name def_in_brackets def_plain def_value plain_call lambda_block empty_brackets full_brackets lambda_call called arrow_parameters plain_block arrow_value then_sign else_part branch otherwise if_value unless_value loop_body while_value until_value when_clause case_value class_header rescue_clause body_else body_ensure handlers begin_value module_body class_value module_value keyword_form newlines behind_newlines paren closed brace_block do_block block tail paren_tail keyword_value word_value integer_value text ivar_value gvar_value top_constant word_list embedded interpolated parenthesized array label_key pair_in_braces hash_value name_call constant_value super_value yield_value prim dot_part scope_part bracket post not_level power_level minus_level product_level sum_level shift_level comparison_level equal_level equality_level and_level or_level range_level ternary argument command_arguments command_part splat item more_items splat_list other_items one_value nested_value right_side jump_value jump command_level block_argument label_pair arrow_pair arguments_from arguments cargs more_pairs method_name not_expression expression alias_statement undef_statement simple modifier statement line statement_list
 c_parenthesized r = (λ x. omega (arith, replaced_deep (act.tokens x.0 x.1.1) (act.start x.0) (x.1.0.0)), (refl, tt, (refl, tt, tt)))
 
 c_array : (r : Bool) → Checks table (array r)
-unfolding table parameter_name bracketed_names more_parameters default_value no_default behind_name named_parameter bracketed_parameter rest_parameter block_parameter sign_parameter simple_parameters parameters block_parameters brace_parts do_parts body_behind def_name def_in_brackets def_plain def_value plain_call lambda_block empty_brackets full_brackets lambda_call called arrow_parameters plain_block arrow_value then_sign else_part branch otherwise if_value unless_value loop_body while_value until_value when_clause case_value class_header rescue_clause body_else body_ensure handlers begin_value module_body class_value module_value keyword_form newlines behind_newlines paren closed brace_block do_block block tail paren_tail keyword_value word_value integer_value text ivar_value gvar_value top_constant word_list embedded interpolated parenthesized array label_key pair_in_braces hash_value name_call constant_value super_value yield_value prim dot_part scope_part bracket post not_level power_level minus_level product_level sum_level shift_level comparison_level equal_level equality_level and_level or_level range_level ternary argument command_arguments command_part splat item more_items splat_list other_items one_value nested_value right_side jump_value jump command_level block_argument label_pair arrow_pair arguments_from arguments cargs more_pairs method_name not_expression expression alias_statement undef_statement simple modifier statement line statement_list
+unfolding table placed target star_target behind_target next_target more_targets starred_set several_set parameter_name bracketed_names more_parameters default_value no_default behind_name named_parameter bracketed_parameter rest_parameter block_parameter sign_parameter simple_parameters parameters block_parameters brace_parts do_parts body_behind def_name def_in_brackets def_plain def_value plain_call lambda_block empty_brackets full_brackets lambda_call called arrow_parameters plain_block arrow_value then_sign else_part branch otherwise if_value unless_value loop_body while_value until_value when_clause case_value class_header rescue_clause body_else body_ensure handlers begin_value module_body class_value module_value keyword_form newlines behind_newlines paren closed brace_block do_block block tail paren_tail keyword_value word_value integer_value text ivar_value gvar_value top_constant word_list embedded interpolated parenthesized array label_key pair_in_braces hash_value name_call constant_value super_value yield_value prim dot_part scope_part bracket post not_level power_level minus_level product_level sum_level shift_level comparison_level equal_level equality_level and_level or_level range_level ternary argument command_arguments command_part splat item more_items splat_list other_items one_value nested_value right_side jump_value jump command_level block_argument label_pair arrow_pair arguments_from arguments cargs more_pairs method_name not_expression expression alias_statement undef_statement simple modifier statement line statement_list
 c_array r = (λ x. omega (arith, d.depth_array_lit (act.items_of (x.1.0)) (act.tokens x.0 x.1.1) (act.start x.0), items_deep (x.1.0)), (refl, tt, c_close r false))
 
 c_key : Checks table (label_key)
-unfolding table parameter_name bracketed_names more_parameters default_value no_default behind_name named_parameter bracketed_parameter rest_parameter block_parameter sign_parameter simple_parameters parameters block_parameters brace_parts do_parts body_behind def_name def_in_brackets def_plain def_value plain_call lambda_block empty_brackets full_brackets lambda_call called arrow_parameters plain_block arrow_value then_sign else_part branch otherwise if_value unless_value loop_body while_value until_value when_clause case_value class_header rescue_clause body_else body_ensure handlers begin_value module_body class_value module_value keyword_form newlines behind_newlines paren closed brace_block do_block block tail paren_tail keyword_value word_value integer_value text ivar_value gvar_value top_constant word_list embedded interpolated parenthesized array label_key pair_in_braces hash_value name_call constant_value super_value yield_value prim dot_part scope_part bracket post not_level power_level minus_level product_level sum_level shift_level comparison_level equal_level equality_level and_level or_level range_level ternary argument command_arguments command_part splat item more_items splat_list other_items one_value nested_value right_side jump_value jump command_level block_argument label_pair arrow_pair arguments_from arguments cargs more_pairs method_name not_expression expression alias_statement undef_statement simple modifier statement line statement_list
+unfolding table placed target star_target behind_target next_target more_targets starred_set several_set parameter_name bracketed_names more_parameters default_value no_default behind_name named_parameter bracketed_parameter rest_parameter block_parameter sign_parameter simple_parameters parameters block_parameters brace_parts do_parts body_behind def_name def_in_brackets def_plain def_value plain_call lambda_block empty_brackets full_brackets lambda_call called arrow_parameters plain_block arrow_value then_sign else_part branch otherwise if_value unless_value loop_body while_value until_value when_clause case_value class_header rescue_clause body_else body_ensure handlers begin_value module_body class_value module_value keyword_form newlines behind_newlines paren closed brace_block do_block block tail paren_tail keyword_value word_value integer_value text ivar_value gvar_value top_constant word_list embedded interpolated parenthesized array label_key pair_in_braces hash_value name_call constant_value super_value yield_value prim dot_part scope_part bracket post not_level power_level minus_level product_level sum_level shift_level comparison_level equal_level equality_level and_level or_level range_level ternary argument command_arguments command_part splat item more_items splat_list other_items one_value nested_value right_side jump_value jump command_level block_argument label_pair arrow_pair arguments_from arguments cargs more_pairs method_name not_expression expression alias_statement undef_statement simple modifier statement line statement_list
 c_key = (λ t. d.depth_str (act.units t) (act.span_of t) (act.start t), tt)
 
 c_pair : (r : Bool) → Checks table (pair_in_braces r)
-unfolding table parameter_name bracketed_names more_parameters default_value no_default behind_name named_parameter bracketed_parameter rest_parameter block_parameter sign_parameter simple_parameters parameters block_parameters brace_parts do_parts body_behind def_name def_in_brackets def_plain def_value plain_call lambda_block empty_brackets full_brackets lambda_call called arrow_parameters plain_block arrow_value then_sign else_part branch otherwise if_value unless_value loop_body while_value until_value when_clause case_value class_header rescue_clause body_else body_ensure handlers begin_value module_body class_value module_value keyword_form newlines behind_newlines paren closed brace_block do_block block tail paren_tail keyword_value word_value integer_value text ivar_value gvar_value top_constant word_list embedded interpolated parenthesized array label_key pair_in_braces hash_value name_call constant_value super_value yield_value prim dot_part scope_part bracket post not_level power_level minus_level product_level sum_level shift_level comparison_level equal_level equality_level and_level or_level range_level ternary argument command_arguments command_part splat item more_items splat_list other_items one_value nested_value right_side jump_value jump command_level block_argument label_pair arrow_pair arguments_from arguments cargs more_pairs method_name not_expression expression alias_statement undef_statement simple modifier statement line statement_list
+unfolding table placed target star_target behind_target next_target more_targets starred_set several_set parameter_name bracketed_names more_parameters default_value no_default behind_name named_parameter bracketed_parameter rest_parameter block_parameter sign_parameter simple_parameters parameters block_parameters brace_parts do_parts body_behind def_name def_in_brackets def_plain def_value plain_call lambda_block empty_brackets full_brackets lambda_call called arrow_parameters plain_block arrow_value then_sign else_part branch otherwise if_value unless_value loop_body while_value until_value when_clause case_value class_header rescue_clause body_else body_ensure handlers begin_value module_body class_value module_value keyword_form newlines behind_newlines paren closed brace_block do_block block tail paren_tail keyword_value word_value integer_value text ivar_value gvar_value top_constant word_list embedded interpolated parenthesized array label_key pair_in_braces hash_value name_call constant_value super_value yield_value prim dot_part scope_part bracket post not_level power_level minus_level product_level sum_level shift_level comparison_level equal_level equality_level and_level or_level range_level ternary argument command_arguments command_part splat item more_items splat_list other_items one_value nested_value right_side jump_value jump command_level block_argument label_pair arrow_pair arguments_from arguments cargs more_pairs method_name not_expression expression alias_statement undef_statement simple modifier statement line statement_list
 c_pair r = (refl, refl, (refl, c_key, tt), (refl, tt, (λ x. omega arith, (refl, tt, tt))))
 
 c_hash : (r : Bool) → Checks table (hash_value r)
-unfolding table parameter_name bracketed_names more_parameters default_value no_default behind_name named_parameter bracketed_parameter rest_parameter block_parameter sign_parameter simple_parameters parameters block_parameters brace_parts do_parts body_behind def_name def_in_brackets def_plain def_value plain_call lambda_block empty_brackets full_brackets lambda_call called arrow_parameters plain_block arrow_value then_sign else_part branch otherwise if_value unless_value loop_body while_value until_value when_clause case_value class_header rescue_clause body_else body_ensure handlers begin_value module_body class_value module_value keyword_form newlines behind_newlines paren closed brace_block do_block block tail paren_tail keyword_value word_value integer_value text ivar_value gvar_value top_constant word_list embedded interpolated parenthesized array label_key pair_in_braces hash_value name_call constant_value super_value yield_value prim dot_part scope_part bracket post not_level power_level minus_level product_level sum_level shift_level comparison_level equal_level equality_level and_level or_level range_level ternary argument command_arguments command_part splat item more_items splat_list other_items one_value nested_value right_side jump_value jump command_level block_argument label_pair arrow_pair arguments_from arguments cargs more_pairs method_name not_expression expression alias_statement undef_statement simple modifier statement line statement_list
+unfolding table placed target star_target behind_target next_target more_targets starred_set several_set parameter_name bracketed_names more_parameters default_value no_default behind_name named_parameter bracketed_parameter rest_parameter block_parameter sign_parameter simple_parameters parameters block_parameters brace_parts do_parts body_behind def_name def_in_brackets def_plain def_value plain_call lambda_block empty_brackets full_brackets lambda_call called arrow_parameters plain_block arrow_value then_sign else_part branch otherwise if_value unless_value loop_body while_value until_value when_clause case_value class_header rescue_clause body_else body_ensure handlers begin_value module_body class_value module_value keyword_form newlines behind_newlines paren closed brace_block do_block block tail paren_tail keyword_value word_value integer_value text ivar_value gvar_value top_constant word_list embedded interpolated parenthesized array label_key pair_in_braces hash_value name_call constant_value super_value yield_value prim dot_part scope_part bracket post not_level power_level minus_level product_level sum_level shift_level comparison_level equal_level equality_level and_level or_level range_level ternary argument command_arguments command_part splat item more_items splat_list other_items one_value nested_value right_side jump_value jump command_level block_argument label_pair arrow_pair arguments_from arguments cargs more_pairs method_name not_expression expression alias_statement undef_statement simple modifier statement line statement_list
 c_hash r = (λ x. omega (arith, d.depth_hash_lit (map (λ y. y.0) (x.1.0)) (map (λ y. y.1) (x.1.0)) (act.tokens x.0 x.1.1) (act.start x.0), braces_deep (x.1.0)), (refl, tt, (refl, (refl, refl, (λ x. refl, (refl, c_pair r, (refl, refl, (λ x. omega arith, (refl, tt, c_pair r))))), tt), (λ x. omega (arith, deepest_flat x.0), (refl, c_newlines, tt)))))
 
 c_plain_call : (d r : Bool) (t : Seen) → Checks table (plain_call r d t)
-unfolding table parameter_name bracketed_names more_parameters default_value no_default behind_name named_parameter bracketed_parameter rest_parameter block_parameter sign_parameter simple_parameters parameters block_parameters brace_parts do_parts body_behind def_name def_in_brackets def_plain def_value plain_call lambda_block empty_brackets full_brackets lambda_call called arrow_parameters plain_block arrow_value then_sign else_part branch otherwise if_value unless_value loop_body while_value until_value when_clause case_value class_header rescue_clause body_else body_ensure handlers begin_value module_body class_value module_value keyword_form newlines behind_newlines paren closed brace_block do_block block tail paren_tail keyword_value word_value integer_value text ivar_value gvar_value top_constant word_list embedded interpolated parenthesized array label_key pair_in_braces hash_value name_call constant_value super_value yield_value prim dot_part scope_part bracket post not_level power_level minus_level product_level sum_level shift_level comparison_level equal_level equality_level and_level or_level range_level ternary argument command_arguments command_part splat item more_items splat_list other_items one_value nested_value right_side jump_value jump command_level block_argument label_pair arrow_pair arguments_from arguments cargs more_pairs method_name not_expression expression alias_statement undef_statement simple modifier statement line statement_list
+unfolding table placed target star_target behind_target next_target more_targets starred_set several_set parameter_name bracketed_names more_parameters default_value no_default behind_name named_parameter bracketed_parameter rest_parameter block_parameter sign_parameter simple_parameters parameters block_parameters brace_parts do_parts body_behind def_name def_in_brackets def_plain def_value plain_call lambda_block empty_brackets full_brackets lambda_call called arrow_parameters plain_block arrow_value then_sign else_part branch otherwise if_value unless_value loop_body while_value until_value when_clause case_value class_header rescue_clause body_else body_ensure handlers begin_value module_body class_value module_value keyword_form newlines behind_newlines paren closed brace_block do_block block tail paren_tail keyword_value word_value integer_value text ivar_value gvar_value top_constant word_list embedded interpolated parenthesized array label_key pair_in_braces hash_value name_call constant_value super_value yield_value prim dot_part scope_part bracket post not_level power_level minus_level product_level sum_level shift_level comparison_level equal_level equality_level and_level or_level range_level ternary argument command_arguments command_part splat item more_items splat_list other_items one_value nested_value right_side jump_value jump command_level block_argument label_pair arrow_pair arguments_from arguments cargs more_pairs method_name not_expression expression alias_statement undef_statement simple modifier statement line statement_list
 c_plain_call true r t = (λ x. omega (arith, named_deep r t x), c_tail true r)
 c_plain_call false r t = (λ x. omega (arith, named_deep r t x), c_tail false r)
 
 c_lambda_block : (d r : Bool) (t : Seen) → Checks table (lambda_block r d t)
-unfolding table parameter_name bracketed_names more_parameters default_value no_default behind_name named_parameter bracketed_parameter rest_parameter block_parameter sign_parameter simple_parameters parameters block_parameters brace_parts do_parts body_behind def_name def_in_brackets def_plain def_value plain_call lambda_block empty_brackets full_brackets lambda_call called arrow_parameters plain_block arrow_value then_sign else_part branch otherwise if_value unless_value loop_body while_value until_value when_clause case_value class_header rescue_clause body_else body_ensure handlers begin_value module_body class_value module_value keyword_form newlines behind_newlines paren closed brace_block do_block block tail paren_tail keyword_value word_value integer_value text ivar_value gvar_value top_constant word_list embedded interpolated parenthesized array label_key pair_in_braces hash_value name_call constant_value super_value yield_value prim dot_part scope_part bracket post not_level power_level minus_level product_level sum_level shift_level comparison_level equal_level equality_level and_level or_level range_level ternary argument command_arguments command_part splat item more_items splat_list other_items one_value nested_value right_side jump_value jump command_level block_argument label_pair arrow_pair arguments_from arguments cargs more_pairs method_name not_expression expression alias_statement undef_statement simple modifier statement line statement_list
+unfolding table placed target star_target behind_target next_target more_targets starred_set several_set parameter_name bracketed_names more_parameters default_value no_default behind_name named_parameter bracketed_parameter rest_parameter block_parameter sign_parameter simple_parameters parameters block_parameters brace_parts do_parts body_behind def_name def_in_brackets def_plain def_value plain_call lambda_block empty_brackets full_brackets lambda_call called arrow_parameters plain_block arrow_value then_sign else_part branch otherwise if_value unless_value loop_body while_value until_value when_clause case_value class_header rescue_clause body_else body_ensure handlers begin_value module_body class_value module_value keyword_form newlines behind_newlines paren closed brace_block do_block block tail paren_tail keyword_value word_value integer_value text ivar_value gvar_value top_constant word_list embedded interpolated parenthesized array label_key pair_in_braces hash_value name_call constant_value super_value yield_value prim dot_part scope_part bracket post not_level power_level minus_level product_level sum_level shift_level comparison_level equal_level equality_level and_level or_level range_level ternary argument command_arguments command_part splat item more_items splat_list other_items one_value nested_value right_side jump_value jump command_level block_argument label_pair arrow_pair arguments_from arguments cargs more_pairs method_name not_expression expression alias_statement undef_statement simple modifier statement line statement_list
 c_lambda_block true r t = (λ x. refl, (refl, refl, (λ x. omega (arith, lambda_deep (x.1.0) (x.1.1.0) (act.tokens t (x.1.1.1))), c_brace_parts r), (λ x. omega (arith, lambda_deep (x.1.0) (x.1.1.0) (act.tokens t (x.1.1.1))), c_do_parts r)))
 c_lambda_block false r t = (λ x. refl, (λ x. omega (arith, lambda_deep (x.1.0) (x.1.1.0) (act.tokens t (x.1.1.1))), c_brace_parts r))
 
 c_empty_brackets : (d r : Bool) (t : Seen) → Checks table (empty_brackets r d t)
-unfolding table parameter_name bracketed_names more_parameters default_value no_default behind_name named_parameter bracketed_parameter rest_parameter block_parameter sign_parameter simple_parameters parameters block_parameters brace_parts do_parts body_behind def_name def_in_brackets def_plain def_value plain_call lambda_block empty_brackets full_brackets lambda_call called arrow_parameters plain_block arrow_value then_sign else_part branch otherwise if_value unless_value loop_body while_value until_value when_clause case_value class_header rescue_clause body_else body_ensure handlers begin_value module_body class_value module_value keyword_form newlines behind_newlines paren closed brace_block do_block block tail paren_tail keyword_value word_value integer_value text ivar_value gvar_value top_constant word_list embedded interpolated parenthesized array label_key pair_in_braces hash_value name_call constant_value super_value yield_value prim dot_part scope_part bracket post not_level power_level minus_level product_level sum_level shift_level comparison_level equal_level equality_level and_level or_level range_level ternary argument command_arguments command_part splat item more_items splat_list other_items one_value nested_value right_side jump_value jump command_level block_argument label_pair arrow_pair arguments_from arguments cargs more_pairs method_name not_expression expression alias_statement undef_statement simple modifier statement line statement_list
+unfolding table placed target star_target behind_target next_target more_targets starred_set several_set parameter_name bracketed_names more_parameters default_value no_default behind_name named_parameter bracketed_parameter rest_parameter block_parameter sign_parameter simple_parameters parameters block_parameters brace_parts do_parts body_behind def_name def_in_brackets def_plain def_value plain_call lambda_block empty_brackets full_brackets lambda_call called arrow_parameters plain_block arrow_value then_sign else_part branch otherwise if_value unless_value loop_body while_value until_value when_clause case_value class_header rescue_clause body_else body_ensure handlers begin_value module_body class_value module_value keyword_form newlines behind_newlines paren closed brace_block do_block block tail paren_tail keyword_value word_value integer_value text ivar_value gvar_value top_constant word_list embedded interpolated parenthesized array label_key pair_in_braces hash_value name_call constant_value super_value yield_value prim dot_part scope_part bracket post not_level power_level minus_level product_level sum_level shift_level comparison_level equal_level equality_level and_level or_level range_level ternary argument command_arguments command_part splat item more_items splat_list other_items one_value nested_value right_side jump_value jump command_level block_argument label_pair arrow_pair arguments_from arguments cargs more_pairs method_name not_expression expression alias_statement undef_statement simple modifier statement line statement_list
 c_empty_brackets true r t = (λ x. omega arith, (refl, (λ x. omega (arith, deepest_flat x.0), (refl, c_newlines, tt)), λ close. (refl, refl, (λ h. refl), (refl, refl, c_lambda_block true r t, tt))))
 c_empty_brackets false r t = (λ x. omega arith, (refl, (λ x. omega (arith, deepest_flat x.0), (refl, c_newlines, tt)), λ close. (refl, refl, (λ h. refl), (refl, refl, c_lambda_block false r t, tt))))
 
 c_full_brackets : (d r : Bool) (t : Seen) → Checks table (full_brackets r d t)
-unfolding table parameter_name bracketed_names more_parameters default_value no_default behind_name named_parameter bracketed_parameter rest_parameter block_parameter sign_parameter simple_parameters parameters block_parameters brace_parts do_parts body_behind def_name def_in_brackets def_plain def_value plain_call lambda_block empty_brackets full_brackets lambda_call called arrow_parameters plain_block arrow_value then_sign else_part branch otherwise if_value unless_value loop_body while_value until_value when_clause case_value class_header rescue_clause body_else body_ensure handlers begin_value module_body class_value module_value keyword_form newlines behind_newlines paren closed brace_block do_block block tail paren_tail keyword_value word_value integer_value text ivar_value gvar_value top_constant word_list embedded interpolated parenthesized array label_key pair_in_braces hash_value name_call constant_value super_value yield_value prim dot_part scope_part bracket post not_level power_level minus_level product_level sum_level shift_level comparison_level equal_level equality_level and_level or_level range_level ternary argument command_arguments command_part splat item more_items splat_list other_items one_value nested_value right_side jump_value jump command_level block_argument label_pair arrow_pair arguments_from arguments cargs more_pairs method_name not_expression expression alias_statement undef_statement simple modifier statement line statement_list
+unfolding table placed target star_target behind_target next_target more_targets starred_set several_set parameter_name bracketed_names more_parameters default_value no_default behind_name named_parameter bracketed_parameter rest_parameter block_parameter sign_parameter simple_parameters parameters block_parameters brace_parts do_parts body_behind def_name def_in_brackets def_plain def_value plain_call lambda_block empty_brackets full_brackets lambda_call called arrow_parameters plain_block arrow_value then_sign else_part branch otherwise if_value unless_value loop_body while_value until_value when_clause case_value class_header rescue_clause body_else body_ensure handlers begin_value module_body class_value module_value keyword_form newlines behind_newlines paren closed brace_block do_block block tail paren_tail keyword_value word_value integer_value text ivar_value gvar_value top_constant word_list embedded interpolated parenthesized array label_key pair_in_braces hash_value name_call constant_value super_value yield_value prim dot_part scope_part bracket post not_level power_level minus_level product_level sum_level shift_level comparison_level equal_level equality_level and_level or_level range_level ternary argument command_arguments command_part splat item more_items splat_list other_items one_value nested_value right_side jump_value jump command_level block_argument label_pair arrow_pair arguments_from arguments cargs more_pairs method_name not_expression expression alias_statement undef_statement simple modifier statement line statement_list
 c_full_brackets true r t = (λ x. omega (arith, named_deep r t (Some x.0, x.1)), (refl, (refl, tt, (λ x. omega (arith, deepest_flat x.0), (refl, c_newlines, tt))), λ x. c_beside true r (is_some (x.0.1.1))))
 c_full_brackets false r t = (λ x. omega (arith, named_deep r t (Some x.0, x.1)), (refl, (refl, tt, (λ x. omega (arith, deepest_flat x.0), (refl, c_newlines, tt))), λ x. c_beside false r (is_some (x.0.1.1))))
 
 c_lambda_call : (d r : Bool) (t : Seen) → Checks table (lambda_call r d t)
-unfolding table parameter_name bracketed_names more_parameters default_value no_default behind_name named_parameter bracketed_parameter rest_parameter block_parameter sign_parameter simple_parameters parameters block_parameters brace_parts do_parts body_behind def_name def_in_brackets def_plain def_value plain_call lambda_block empty_brackets full_brackets lambda_call called arrow_parameters plain_block arrow_value then_sign else_part branch otherwise if_value unless_value loop_body while_value until_value when_clause case_value class_header rescue_clause body_else body_ensure handlers begin_value module_body class_value module_value keyword_form newlines behind_newlines paren closed brace_block do_block block tail paren_tail keyword_value word_value integer_value text ivar_value gvar_value top_constant word_list embedded interpolated parenthesized array label_key pair_in_braces hash_value name_call constant_value super_value yield_value prim dot_part scope_part bracket post not_level power_level minus_level product_level sum_level shift_level comparison_level equal_level equality_level and_level or_level range_level ternary argument command_arguments command_part splat item more_items splat_list other_items one_value nested_value right_side jump_value jump command_level block_argument label_pair arrow_pair arguments_from arguments cargs more_pairs method_name not_expression expression alias_statement undef_statement simple modifier statement line statement_list
+unfolding table placed target star_target behind_target next_target more_targets starred_set several_set parameter_name bracketed_names more_parameters default_value no_default behind_name named_parameter bracketed_parameter rest_parameter block_parameter sign_parameter simple_parameters parameters block_parameters brace_parts do_parts body_behind def_name def_in_brackets def_plain def_value plain_call lambda_block empty_brackets full_brackets lambda_call called arrow_parameters plain_block arrow_value then_sign else_part branch otherwise if_value unless_value loop_body while_value until_value when_clause case_value class_header rescue_clause body_else body_ensure handlers begin_value module_body class_value module_value keyword_form newlines behind_newlines paren closed brace_block do_block block tail paren_tail keyword_value word_value integer_value text ivar_value gvar_value top_constant word_list embedded interpolated parenthesized array label_key pair_in_braces hash_value name_call constant_value super_value yield_value prim dot_part scope_part bracket post not_level power_level minus_level product_level sum_level shift_level comparison_level equal_level equality_level and_level or_level range_level ternary argument command_arguments command_part splat item more_items splat_list other_items one_value nested_value right_side jump_value jump command_level block_argument label_pair arrow_pair arguments_from arguments cargs more_pairs method_name not_expression expression alias_statement undef_statement simple modifier statement line statement_list
 c_lambda_call true r t = (refl, refl, c_lambda_block true r t, (refl, refl, (λ x. omega arith, (refl, tt, (refl, refl, c_empty_brackets true r t, c_full_brackets true r t))), tt))
 c_lambda_call false r t = (refl, refl, c_lambda_block false r t, (refl, refl, (λ x. omega arith, (refl, tt, (refl, refl, c_empty_brackets false r t, c_full_brackets false r t))), tt))
 
 c_called : (d r lambda : Bool) (t : Seen) → Included table (first table (called r d lambda t)) (begins_tail r d) × Included table (continues table (called r d lambda t)) (begins_tail r d) × (nullable table (called r d lambda t) ≡ true → true ≡ true) × Checks table (called r d lambda t)
-unfolding table parameter_name bracketed_names more_parameters default_value no_default behind_name named_parameter bracketed_parameter rest_parameter block_parameter sign_parameter simple_parameters parameters block_parameters brace_parts do_parts body_behind def_name def_in_brackets def_plain def_value plain_call lambda_block empty_brackets full_brackets lambda_call called arrow_parameters plain_block arrow_value then_sign else_part branch otherwise if_value unless_value loop_body while_value until_value when_clause case_value class_header rescue_clause body_else body_ensure handlers begin_value module_body class_value module_value keyword_form newlines behind_newlines paren closed brace_block do_block block tail paren_tail keyword_value word_value integer_value text ivar_value gvar_value top_constant word_list embedded interpolated parenthesized array label_key pair_in_braces hash_value name_call constant_value super_value yield_value prim dot_part scope_part bracket post not_level power_level minus_level product_level sum_level shift_level comparison_level equal_level equality_level and_level or_level range_level ternary argument command_arguments command_part splat item more_items splat_list other_items one_value nested_value right_side jump_value jump command_level block_argument label_pair arrow_pair arguments_from arguments cargs more_pairs method_name not_expression expression alias_statement undef_statement simple modifier statement line statement_list
+unfolding table placed target star_target behind_target next_target more_targets starred_set several_set parameter_name bracketed_names more_parameters default_value no_default behind_name named_parameter bracketed_parameter rest_parameter block_parameter sign_parameter simple_parameters parameters block_parameters brace_parts do_parts body_behind def_name def_in_brackets def_plain def_value plain_call lambda_block empty_brackets full_brackets lambda_call called arrow_parameters plain_block arrow_value then_sign else_part branch otherwise if_value unless_value loop_body while_value until_value when_clause case_value class_header rescue_clause body_else body_ensure handlers begin_value module_body class_value module_value keyword_form newlines behind_newlines paren closed brace_block do_block block tail paren_tail keyword_value word_value integer_value text ivar_value gvar_value top_constant word_list embedded interpolated parenthesized array label_key pair_in_braces hash_value name_call constant_value super_value yield_value prim dot_part scope_part bracket post not_level power_level minus_level product_level sum_level shift_level comparison_level equal_level equality_level and_level or_level range_level ternary argument command_arguments command_part splat item more_items splat_list other_items one_value nested_value right_side jump_value jump command_level block_argument label_pair arrow_pair arguments_from arguments cargs more_pairs method_name not_expression expression alias_statement undef_statement simple modifier statement line statement_list
 c_called true r true t = (refl, refl, (λ h. refl), c_lambda_call true r t)
 c_called true r false t = (refl, refl, (λ h. refl), c_plain_call true r t)
 c_called false r true t = (refl, refl, (λ h. refl), c_lambda_call false r t)
 c_called false r false t = (refl, refl, (λ h. refl), c_plain_call false r t)
 
 c_name : (d r : Bool) → Checks table (name_call r d)
-unfolding table parameter_name bracketed_names more_parameters default_value no_default behind_name named_parameter bracketed_parameter rest_parameter block_parameter sign_parameter simple_parameters parameters block_parameters brace_parts do_parts body_behind def_name def_in_brackets def_plain def_value plain_call lambda_block empty_brackets full_brackets lambda_call called arrow_parameters plain_block arrow_value then_sign else_part branch otherwise if_value unless_value loop_body while_value until_value when_clause case_value class_header rescue_clause body_else body_ensure handlers begin_value module_body class_value module_value keyword_form newlines behind_newlines paren closed brace_block do_block block tail paren_tail keyword_value word_value integer_value text ivar_value gvar_value top_constant word_list embedded interpolated parenthesized array label_key pair_in_braces hash_value name_call constant_value super_value yield_value prim dot_part scope_part bracket post not_level power_level minus_level product_level sum_level shift_level comparison_level equal_level equality_level and_level or_level range_level ternary argument command_arguments command_part splat item more_items splat_list other_items one_value nested_value right_side jump_value jump command_level block_argument label_pair arrow_pair arguments_from arguments cargs more_pairs method_name not_expression expression alias_statement undef_statement simple modifier statement line statement_list
+unfolding table placed target star_target behind_target next_target more_targets starred_set several_set parameter_name bracketed_names more_parameters default_value no_default behind_name named_parameter bracketed_parameter rest_parameter block_parameter sign_parameter simple_parameters parameters block_parameters brace_parts do_parts body_behind def_name def_in_brackets def_plain def_value plain_call lambda_block empty_brackets full_brackets lambda_call called arrow_parameters plain_block arrow_value then_sign else_part branch otherwise if_value unless_value loop_body while_value until_value when_clause case_value class_header rescue_clause body_else body_ensure handlers begin_value module_body class_value module_value keyword_form newlines behind_newlines paren closed brace_block do_block block tail paren_tail keyword_value word_value integer_value text ivar_value gvar_value top_constant word_list embedded interpolated parenthesized array label_key pair_in_braces hash_value name_call constant_value super_value yield_value prim dot_part scope_part bracket post not_level power_level minus_level product_level sum_level shift_level comparison_level equal_level equality_level and_level or_level range_level ternary argument command_arguments command_part splat item more_items splat_list other_items one_value nested_value right_side jump_value jump command_level block_argument label_pair arrow_pair arguments_from arguments cargs more_pairs method_name not_expression expression alias_statement undef_statement simple modifier statement line statement_list
 c_name true r = (λ x. omega arith, ((λ x. omega (arith, some_level (x.1.0))), (refl, tt, λ t. c_called true r (act.is_lambda t) t)))
 c_name false r = (λ x. omega arith, ((λ x. omega (arith, some_level (x.1.0))), (refl, tt, λ t. c_called false r (act.is_lambda t) t)))
 
 c_arrow_parameters : (r : Bool) → Checks table (arrow_parameters r)
-unfolding table parameter_name bracketed_names more_parameters default_value no_default behind_name named_parameter bracketed_parameter rest_parameter block_parameter sign_parameter simple_parameters parameters block_parameters brace_parts do_parts body_behind def_name def_in_brackets def_plain def_value plain_call lambda_block empty_brackets full_brackets lambda_call called arrow_parameters plain_block arrow_value then_sign else_part branch otherwise if_value unless_value loop_body while_value until_value when_clause case_value class_header rescue_clause body_else body_ensure handlers begin_value module_body class_value module_value keyword_form newlines behind_newlines paren closed brace_block do_block block tail paren_tail keyword_value word_value integer_value text ivar_value gvar_value top_constant word_list embedded interpolated parenthesized array label_key pair_in_braces hash_value name_call constant_value super_value yield_value prim dot_part scope_part bracket post not_level power_level minus_level product_level sum_level shift_level comparison_level equal_level equality_level and_level or_level range_level ternary argument command_arguments command_part splat item more_items splat_list other_items one_value nested_value right_side jump_value jump command_level block_argument label_pair arrow_pair arguments_from arguments cargs more_pairs method_name not_expression expression alias_statement undef_statement simple modifier statement line statement_list
+unfolding table placed target star_target behind_target next_target more_targets starred_set several_set parameter_name bracketed_names more_parameters default_value no_default behind_name named_parameter bracketed_parameter rest_parameter block_parameter sign_parameter simple_parameters parameters block_parameters brace_parts do_parts body_behind def_name def_in_brackets def_plain def_value plain_call lambda_block empty_brackets full_brackets lambda_call called arrow_parameters plain_block arrow_value then_sign else_part branch otherwise if_value unless_value loop_body while_value until_value when_clause case_value class_header rescue_clause body_else body_ensure handlers begin_value module_body class_value module_value keyword_form newlines behind_newlines paren closed brace_block do_block block tail paren_tail keyword_value word_value integer_value text ivar_value gvar_value top_constant word_list embedded interpolated parenthesized array label_key pair_in_braces hash_value name_call constant_value super_value yield_value prim dot_part scope_part bracket post not_level power_level minus_level product_level sum_level shift_level comparison_level equal_level equality_level and_level or_level range_level ternary argument command_arguments command_part splat item more_items splat_list other_items one_value nested_value right_side jump_value jump command_level block_argument label_pair arrow_pair arguments_from arguments cargs more_pairs method_name not_expression expression alias_statement undef_statement simple modifier statement line statement_list
 c_arrow_parameters r = (refl, refl, (λ x. omega arith, (refl, tt, (λ x. omega arith, (refl, (refl, refl, tt, tt), (λ x. omega (arith, deepest_flat x.0), (refl, c_newlines, tt)))))), tt)
 
 c_plain_block : (d r : Bool) → Checks table (plain_block r d)
-unfolding table parameter_name bracketed_names more_parameters default_value no_default behind_name named_parameter bracketed_parameter rest_parameter block_parameter sign_parameter simple_parameters parameters block_parameters brace_parts do_parts body_behind def_name def_in_brackets def_plain def_value plain_call lambda_block empty_brackets full_brackets lambda_call called arrow_parameters plain_block arrow_value then_sign else_part branch otherwise if_value unless_value loop_body while_value until_value when_clause case_value class_header rescue_clause body_else body_ensure handlers begin_value module_body class_value module_value keyword_form newlines behind_newlines paren closed brace_block do_block block tail paren_tail keyword_value word_value integer_value text ivar_value gvar_value top_constant word_list embedded interpolated parenthesized array label_key pair_in_braces hash_value name_call constant_value super_value yield_value prim dot_part scope_part bracket post not_level power_level minus_level product_level sum_level shift_level comparison_level equal_level equality_level and_level or_level range_level ternary argument command_arguments command_part splat item more_items splat_list other_items one_value nested_value right_side jump_value jump command_level block_argument label_pair arrow_pair arguments_from arguments cargs more_pairs method_name not_expression expression alias_statement undef_statement simple modifier statement line statement_list
+unfolding table placed target star_target behind_target next_target more_targets starred_set several_set parameter_name bracketed_names more_parameters default_value no_default behind_name named_parameter bracketed_parameter rest_parameter block_parameter sign_parameter simple_parameters parameters block_parameters brace_parts do_parts body_behind def_name def_in_brackets def_plain def_value plain_call lambda_block empty_brackets full_brackets lambda_call called arrow_parameters plain_block arrow_value then_sign else_part branch otherwise if_value unless_value loop_body while_value until_value when_clause case_value class_header rescue_clause body_else body_ensure handlers begin_value module_body class_value module_value keyword_form newlines behind_newlines paren closed brace_block do_block block tail paren_tail keyword_value word_value integer_value text ivar_value gvar_value top_constant word_list embedded interpolated parenthesized array label_key pair_in_braces hash_value name_call constant_value super_value yield_value prim dot_part scope_part bracket post not_level power_level minus_level product_level sum_level shift_level comparison_level equal_level equality_level and_level or_level range_level ternary argument command_arguments command_part splat item more_items splat_list other_items one_value nested_value right_side jump_value jump command_level block_argument label_pair arrow_pair arguments_from arguments cargs more_pairs method_name not_expression expression alias_statement undef_statement simple modifier statement line statement_list
 c_plain_block true r = (refl, refl, (λ x. omega arith, (refl, tt, (refl, tt, tt))), (λ x. omega arith, (refl, tt, (refl, tt, tt))))
 c_plain_block false r = (λ x. omega arith, (refl, tt, (refl, tt, tt)))
 
 c_arrow_value : (d r : Bool) → Checks table (arrow_value r d)
-unfolding table parameter_name bracketed_names more_parameters default_value no_default behind_name named_parameter bracketed_parameter rest_parameter block_parameter sign_parameter simple_parameters parameters block_parameters brace_parts do_parts body_behind def_name def_in_brackets def_plain def_value plain_call lambda_block empty_brackets full_brackets lambda_call called arrow_parameters plain_block arrow_value then_sign else_part branch otherwise if_value unless_value loop_body while_value until_value when_clause case_value class_header rescue_clause body_else body_ensure handlers begin_value module_body class_value module_value keyword_form newlines behind_newlines paren closed brace_block do_block block tail paren_tail keyword_value word_value integer_value text ivar_value gvar_value top_constant word_list embedded interpolated parenthesized array label_key pair_in_braces hash_value name_call constant_value super_value yield_value prim dot_part scope_part bracket post not_level power_level minus_level product_level sum_level shift_level comparison_level equal_level equality_level and_level or_level range_level ternary argument command_arguments command_part splat item more_items splat_list other_items one_value nested_value right_side jump_value jump command_level block_argument label_pair arrow_pair arguments_from arguments cargs more_pairs method_name not_expression expression alias_statement undef_statement simple modifier statement line statement_list
+unfolding table placed target star_target behind_target next_target more_targets starred_set several_set parameter_name bracketed_names more_parameters default_value no_default behind_name named_parameter bracketed_parameter rest_parameter block_parameter sign_parameter simple_parameters parameters block_parameters brace_parts do_parts body_behind def_name def_in_brackets def_plain def_value plain_call lambda_block empty_brackets full_brackets lambda_call called arrow_parameters plain_block arrow_value then_sign else_part branch otherwise if_value unless_value loop_body while_value until_value when_clause case_value class_header rescue_clause body_else body_ensure handlers begin_value module_body class_value module_value keyword_form newlines behind_newlines paren closed brace_block do_block block tail paren_tail keyword_value word_value integer_value text ivar_value gvar_value top_constant word_list embedded interpolated parenthesized array label_key pair_in_braces hash_value name_call constant_value super_value yield_value prim dot_part scope_part bracket post not_level power_level minus_level product_level sum_level shift_level comparison_level equal_level equality_level and_level or_level range_level ternary argument command_arguments command_part splat item more_items splat_list other_items one_value nested_value right_side jump_value jump command_level block_argument label_pair arrow_pair arguments_from arguments cargs more_pairs method_name not_expression expression alias_statement undef_statement simple modifier statement line statement_list
 c_arrow_value true r = (λ x. omega (arith, lambda_deep (x.1.0) (x.1.1.0) (act.tokens x.0 (x.1.1.1))), (refl, tt, (refl, c_arrow_parameters r, c_plain_block true r)))
 c_arrow_value false r = (λ x. omega (arith, lambda_deep (x.1.0) (x.1.1.0) (act.tokens x.0 (x.1.1.1))), (refl, tt, (refl, c_arrow_parameters r, c_plain_block false r)))
 
 c_constant : (d r : Bool) → Checks table (constant_value r d)
-unfolding table parameter_name bracketed_names more_parameters default_value no_default behind_name named_parameter bracketed_parameter rest_parameter block_parameter sign_parameter simple_parameters parameters block_parameters brace_parts do_parts body_behind def_name def_in_brackets def_plain def_value plain_call lambda_block empty_brackets full_brackets lambda_call called arrow_parameters plain_block arrow_value then_sign else_part branch otherwise if_value unless_value loop_body while_value until_value when_clause case_value class_header rescue_clause body_else body_ensure handlers begin_value module_body class_value module_value keyword_form newlines behind_newlines paren closed brace_block do_block block tail paren_tail keyword_value word_value integer_value text ivar_value gvar_value top_constant word_list embedded interpolated parenthesized array label_key pair_in_braces hash_value name_call constant_value super_value yield_value prim dot_part scope_part bracket post not_level power_level minus_level product_level sum_level shift_level comparison_level equal_level equality_level and_level or_level range_level ternary argument command_arguments command_part splat item more_items splat_list other_items one_value nested_value right_side jump_value jump command_level block_argument label_pair arrow_pair arguments_from arguments cargs more_pairs method_name not_expression expression alias_statement undef_statement simple modifier statement line statement_list
+unfolding table placed target star_target behind_target next_target more_targets starred_set several_set parameter_name bracketed_names more_parameters default_value no_default behind_name named_parameter bracketed_parameter rest_parameter block_parameter sign_parameter simple_parameters parameters block_parameters brace_parts do_parts body_behind def_name def_in_brackets def_plain def_value plain_call lambda_block empty_brackets full_brackets lambda_call called arrow_parameters plain_block arrow_value then_sign else_part branch otherwise if_value unless_value loop_body while_value until_value when_clause case_value class_header rescue_clause body_else body_ensure handlers begin_value module_body class_value module_value keyword_form newlines behind_newlines paren closed brace_block do_block block tail paren_tail keyword_value word_value integer_value text ivar_value gvar_value top_constant word_list embedded interpolated parenthesized array label_key pair_in_braces hash_value name_call constant_value super_value yield_value prim dot_part scope_part bracket post not_level power_level minus_level product_level sum_level shift_level comparison_level equal_level equality_level and_level or_level range_level ternary argument command_arguments command_part splat item more_items splat_list other_items one_value nested_value right_side jump_value jump command_level block_argument label_pair arrow_pair arguments_from arguments cargs more_pairs method_name not_expression expression alias_statement undef_statement simple modifier statement line statement_list
 c_constant true r = (λ x. omega (arith, constant_deep x.0 x.1), (refl, tt, (refl, refl, c_paren_tail true r, tt)))
 c_constant false r = (λ x. omega (arith, constant_deep x.0 x.1), (refl, tt, (refl, refl, c_paren_tail false r, tt)))
 
 c_super : (d r : Bool) → Checks table (super_value r d)
-unfolding table parameter_name bracketed_names more_parameters default_value no_default behind_name named_parameter bracketed_parameter rest_parameter block_parameter sign_parameter simple_parameters parameters block_parameters brace_parts do_parts body_behind def_name def_in_brackets def_plain def_value plain_call lambda_block empty_brackets full_brackets lambda_call called arrow_parameters plain_block arrow_value then_sign else_part branch otherwise if_value unless_value loop_body while_value until_value when_clause case_value class_header rescue_clause body_else body_ensure handlers begin_value module_body class_value module_value keyword_form newlines behind_newlines paren closed brace_block do_block block tail paren_tail keyword_value word_value integer_value text ivar_value gvar_value top_constant word_list embedded interpolated parenthesized array label_key pair_in_braces hash_value name_call constant_value super_value yield_value prim dot_part scope_part bracket post not_level power_level minus_level product_level sum_level shift_level comparison_level equal_level equality_level and_level or_level range_level ternary argument command_arguments command_part splat item more_items splat_list other_items one_value nested_value right_side jump_value jump command_level block_argument label_pair arrow_pair arguments_from arguments cargs more_pairs method_name not_expression expression alias_statement undef_statement simple modifier statement line statement_list
+unfolding table placed target star_target behind_target next_target more_targets starred_set several_set parameter_name bracketed_names more_parameters default_value no_default behind_name named_parameter bracketed_parameter rest_parameter block_parameter sign_parameter simple_parameters parameters block_parameters brace_parts do_parts body_behind def_name def_in_brackets def_plain def_value plain_call lambda_block empty_brackets full_brackets lambda_call called arrow_parameters plain_block arrow_value then_sign else_part branch otherwise if_value unless_value loop_body while_value until_value when_clause case_value class_header rescue_clause body_else body_ensure handlers begin_value module_body class_value module_value keyword_form newlines behind_newlines paren closed brace_block do_block block tail paren_tail keyword_value word_value integer_value text ivar_value gvar_value top_constant word_list embedded interpolated parenthesized array label_key pair_in_braces hash_value name_call constant_value super_value yield_value prim dot_part scope_part bracket post not_level power_level minus_level product_level sum_level shift_level comparison_level equal_level equality_level and_level or_level range_level ternary argument command_arguments command_part splat item more_items splat_list other_items one_value nested_value right_side jump_value jump command_level block_argument label_pair arrow_pair arguments_from arguments cargs more_pairs method_name not_expression expression alias_statement undef_statement simple modifier statement line statement_list
 c_super true r = (λ x. omega (arith, super_deep x.0 x.1), (refl, tt, c_tail true r))
 c_super false r = (λ x. omega (arith, super_deep x.0 x.1), (refl, tt, c_tail false r))
 
 c_yield : (r : Bool) → Checks table (yield_value r)
-unfolding table parameter_name bracketed_names more_parameters default_value no_default behind_name named_parameter bracketed_parameter rest_parameter block_parameter sign_parameter simple_parameters parameters block_parameters brace_parts do_parts body_behind def_name def_in_brackets def_plain def_value plain_call lambda_block empty_brackets full_brackets lambda_call called arrow_parameters plain_block arrow_value then_sign else_part branch otherwise if_value unless_value loop_body while_value until_value when_clause case_value class_header rescue_clause body_else body_ensure handlers begin_value module_body class_value module_value keyword_form newlines behind_newlines paren closed brace_block do_block block tail paren_tail keyword_value word_value integer_value text ivar_value gvar_value top_constant word_list embedded interpolated parenthesized array label_key pair_in_braces hash_value name_call constant_value super_value yield_value prim dot_part scope_part bracket post not_level power_level minus_level product_level sum_level shift_level comparison_level equal_level equality_level and_level or_level range_level ternary argument command_arguments command_part splat item more_items splat_list other_items one_value nested_value right_side jump_value jump command_level block_argument label_pair arrow_pair arguments_from arguments cargs more_pairs method_name not_expression expression alias_statement undef_statement simple modifier statement line statement_list
+unfolding table placed target star_target behind_target next_target more_targets starred_set several_set parameter_name bracketed_names more_parameters default_value no_default behind_name named_parameter bracketed_parameter rest_parameter block_parameter sign_parameter simple_parameters parameters block_parameters brace_parts do_parts body_behind def_name def_in_brackets def_plain def_value plain_call lambda_block empty_brackets full_brackets lambda_call called arrow_parameters plain_block arrow_value then_sign else_part branch otherwise if_value unless_value loop_body while_value until_value when_clause case_value class_header rescue_clause body_else body_ensure handlers begin_value module_body class_value module_value keyword_form newlines behind_newlines paren closed brace_block do_block block tail paren_tail keyword_value word_value integer_value text ivar_value gvar_value top_constant word_list embedded interpolated parenthesized array label_key pair_in_braces hash_value name_call constant_value super_value yield_value prim dot_part scope_part bracket post not_level power_level minus_level product_level sum_level shift_level comparison_level equal_level equality_level and_level or_level range_level ternary argument command_arguments command_part splat item more_items splat_list other_items one_value nested_value right_side jump_value jump command_level block_argument label_pair arrow_pair arguments_from arguments cargs more_pairs method_name not_expression expression alias_statement undef_statement simple modifier statement line statement_list
 c_yield r = (λ x. omega (arith, yield_deep x.0 x.1), (refl, tt, (refl, refl, (λ x. refl, c_paren r false), tt)))
 
 c_then : Checks table (then_sign)
-unfolding table parameter_name bracketed_names more_parameters default_value no_default behind_name named_parameter bracketed_parameter rest_parameter block_parameter sign_parameter simple_parameters parameters block_parameters brace_parts do_parts body_behind def_name def_in_brackets def_plain def_value plain_call lambda_block empty_brackets full_brackets lambda_call called arrow_parameters plain_block arrow_value then_sign else_part branch otherwise if_value unless_value loop_body while_value until_value when_clause case_value class_header rescue_clause body_else body_ensure handlers begin_value module_body class_value module_value keyword_form newlines behind_newlines paren closed brace_block do_block block tail paren_tail keyword_value word_value integer_value text ivar_value gvar_value top_constant word_list embedded interpolated parenthesized array label_key pair_in_braces hash_value name_call constant_value super_value yield_value prim dot_part scope_part bracket post not_level power_level minus_level product_level sum_level shift_level comparison_level equal_level equality_level and_level or_level range_level ternary argument command_arguments command_part splat item more_items splat_list other_items one_value nested_value right_side jump_value jump command_level block_argument label_pair arrow_pair arguments_from arguments cargs more_pairs method_name not_expression expression alias_statement undef_statement simple modifier statement line statement_list
+unfolding table placed target star_target behind_target next_target more_targets starred_set several_set parameter_name bracketed_names more_parameters default_value no_default behind_name named_parameter bracketed_parameter rest_parameter block_parameter sign_parameter simple_parameters parameters block_parameters brace_parts do_parts body_behind def_name def_in_brackets def_plain def_value plain_call lambda_block empty_brackets full_brackets lambda_call called arrow_parameters plain_block arrow_value then_sign else_part branch otherwise if_value unless_value loop_body while_value until_value when_clause case_value class_header rescue_clause body_else body_ensure handlers begin_value module_body class_value module_value keyword_form newlines behind_newlines paren closed brace_block do_block block tail paren_tail keyword_value word_value integer_value text ivar_value gvar_value top_constant word_list embedded interpolated parenthesized array label_key pair_in_braces hash_value name_call constant_value super_value yield_value prim dot_part scope_part bracket post not_level power_level minus_level product_level sum_level shift_level comparison_level equal_level equality_level and_level or_level range_level ternary argument command_arguments command_part splat item more_items splat_list other_items one_value nested_value right_side jump_value jump command_level block_argument label_pair arrow_pair arguments_from arguments cargs more_pairs method_name not_expression expression alias_statement undef_statement simple modifier statement line statement_list
 c_then = (refl, refl, (λ x. omega (arith, flat_option x.1), (refl, tt, (refl, refl, (λ x. refl, tt), tt))), tt)
 
 c_else : (r : Bool) → Checks table (else_part r)
-unfolding table parameter_name bracketed_names more_parameters default_value no_default behind_name named_parameter bracketed_parameter rest_parameter block_parameter sign_parameter simple_parameters parameters block_parameters brace_parts do_parts body_behind def_name def_in_brackets def_plain def_value plain_call lambda_block empty_brackets full_brackets lambda_call called arrow_parameters plain_block arrow_value then_sign else_part branch otherwise if_value unless_value loop_body while_value until_value when_clause case_value class_header rescue_clause body_else body_ensure handlers begin_value module_body class_value module_value keyword_form newlines behind_newlines paren closed brace_block do_block block tail paren_tail keyword_value word_value integer_value text ivar_value gvar_value top_constant word_list embedded interpolated parenthesized array label_key pair_in_braces hash_value name_call constant_value super_value yield_value prim dot_part scope_part bracket post not_level power_level minus_level product_level sum_level shift_level comparison_level equal_level equality_level and_level or_level range_level ternary argument command_arguments command_part splat item more_items splat_list other_items one_value nested_value right_side jump_value jump command_level block_argument label_pair arrow_pair arguments_from arguments cargs more_pairs method_name not_expression expression alias_statement undef_statement simple modifier statement line statement_list
+unfolding table placed target star_target behind_target next_target more_targets starred_set several_set parameter_name bracketed_names more_parameters default_value no_default behind_name named_parameter bracketed_parameter rest_parameter block_parameter sign_parameter simple_parameters parameters block_parameters brace_parts do_parts body_behind def_name def_in_brackets def_plain def_value plain_call lambda_block empty_brackets full_brackets lambda_call called arrow_parameters plain_block arrow_value then_sign else_part branch otherwise if_value unless_value loop_body while_value until_value when_clause case_value class_header rescue_clause body_else body_ensure handlers begin_value module_body class_value module_value keyword_form newlines behind_newlines paren closed brace_block do_block block tail paren_tail keyword_value word_value integer_value text ivar_value gvar_value top_constant word_list embedded interpolated parenthesized array label_key pair_in_braces hash_value name_call constant_value super_value yield_value prim dot_part scope_part bracket post not_level power_level minus_level product_level sum_level shift_level comparison_level equal_level equality_level and_level or_level range_level ternary argument command_arguments command_part splat item more_items splat_list other_items one_value nested_value right_side jump_value jump command_level block_argument label_pair arrow_pair arguments_from arguments cargs more_pairs method_name not_expression expression alias_statement undef_statement simple modifier statement line statement_list
 c_else r = (refl, refl, (λ x. omega arith, (refl, tt, tt)), tt)
 
 c_branch : (r : Bool) → Checks table (branch r)
-unfolding table parameter_name bracketed_names more_parameters default_value no_default behind_name named_parameter bracketed_parameter rest_parameter block_parameter sign_parameter simple_parameters parameters block_parameters brace_parts do_parts body_behind def_name def_in_brackets def_plain def_value plain_call lambda_block empty_brackets full_brackets lambda_call called arrow_parameters plain_block arrow_value then_sign else_part branch otherwise if_value unless_value loop_body while_value until_value when_clause case_value class_header rescue_clause body_else body_ensure handlers begin_value module_body class_value module_value keyword_form newlines behind_newlines paren closed brace_block do_block block tail paren_tail keyword_value word_value integer_value text ivar_value gvar_value top_constant word_list embedded interpolated parenthesized array label_key pair_in_braces hash_value name_call constant_value super_value yield_value prim dot_part scope_part bracket post not_level power_level minus_level product_level sum_level shift_level comparison_level equal_level equality_level and_level or_level range_level ternary argument command_arguments command_part splat item more_items splat_list other_items one_value nested_value right_side jump_value jump command_level block_argument label_pair arrow_pair arguments_from arguments cargs more_pairs method_name not_expression expression alias_statement undef_statement simple modifier statement line statement_list
+unfolding table placed target star_target behind_target next_target more_targets starred_set several_set parameter_name bracketed_names more_parameters default_value no_default behind_name named_parameter bracketed_parameter rest_parameter block_parameter sign_parameter simple_parameters parameters block_parameters brace_parts do_parts body_behind def_name def_in_brackets def_plain def_value plain_call lambda_block empty_brackets full_brackets lambda_call called arrow_parameters plain_block arrow_value then_sign else_part branch otherwise if_value unless_value loop_body while_value until_value when_clause case_value class_header rescue_clause body_else body_ensure handlers begin_value module_body class_value module_value keyword_form newlines behind_newlines paren closed brace_block do_block block tail paren_tail keyword_value word_value integer_value text ivar_value gvar_value top_constant word_list embedded interpolated parenthesized array label_key pair_in_braces hash_value name_call constant_value super_value yield_value prim dot_part scope_part bracket post not_level power_level minus_level product_level sum_level shift_level comparison_level equal_level equality_level and_level or_level range_level ternary argument command_arguments command_part splat item more_items splat_list other_items one_value nested_value right_side jump_value jump command_level block_argument label_pair arrow_pair arguments_from arguments cargs more_pairs method_name not_expression expression alias_statement undef_statement simple modifier statement line statement_list
 c_branch r = (refl, tt, (refl, c_then, tt))
 
 pub c_otherwise : (r : Bool) → Checks table (otherwise r)
-unfolding table parameter_name bracketed_names more_parameters default_value no_default behind_name named_parameter bracketed_parameter rest_parameter block_parameter sign_parameter simple_parameters parameters block_parameters brace_parts do_parts body_behind def_name def_in_brackets def_plain def_value plain_call lambda_block empty_brackets full_brackets lambda_call called arrow_parameters plain_block arrow_value then_sign else_part branch otherwise if_value unless_value loop_body while_value until_value when_clause case_value class_header rescue_clause body_else body_ensure handlers begin_value module_body class_value module_value keyword_form newlines behind_newlines paren closed brace_block do_block block tail paren_tail keyword_value word_value integer_value text ivar_value gvar_value top_constant word_list embedded interpolated parenthesized array label_key pair_in_braces hash_value name_call constant_value super_value yield_value prim dot_part scope_part bracket post not_level power_level minus_level product_level sum_level shift_level comparison_level equal_level equality_level and_level or_level range_level ternary argument command_arguments command_part splat item more_items splat_list other_items one_value nested_value right_side jump_value jump command_level block_argument label_pair arrow_pair arguments_from arguments cargs more_pairs method_name not_expression expression alias_statement undef_statement simple modifier statement line statement_list
+unfolding table placed target star_target behind_target next_target more_targets starred_set several_set parameter_name bracketed_names more_parameters default_value no_default behind_name named_parameter bracketed_parameter rest_parameter block_parameter sign_parameter simple_parameters parameters block_parameters brace_parts do_parts body_behind def_name def_in_brackets def_plain def_value plain_call lambda_block empty_brackets full_brackets lambda_call called arrow_parameters plain_block arrow_value then_sign else_part branch otherwise if_value unless_value loop_body while_value until_value when_clause case_value class_header rescue_clause body_else body_ensure handlers begin_value module_body class_value module_value keyword_form newlines behind_newlines paren closed brace_block do_block block tail paren_tail keyword_value word_value integer_value text ivar_value gvar_value top_constant word_list embedded interpolated parenthesized array label_key pair_in_braces hash_value name_call constant_value super_value yield_value prim dot_part scope_part bracket post not_level power_level minus_level product_level sum_level shift_level comparison_level equal_level equality_level and_level or_level range_level ternary argument command_arguments command_part splat item more_items splat_list other_items one_value nested_value right_side jump_value jump command_level block_argument label_pair arrow_pair arguments_from arguments cargs more_pairs method_name not_expression expression alias_statement undef_statement simple modifier statement line statement_list
 c_otherwise r = (refl, refl, (λ x. omega (arith, d.depth_if (x.1.0.0) (act.filled (act.elsif_span x.0 (x.1.0) x.1.1) (x.1.0.1.1)) (act.filled (act.elsif_span x.0 (x.1.0) x.1.1) x.1.1) (act.elsif_span x.0 (x.1.0) x.1.1) (act.start x.0), filled_deep (act.elsif_span x.0 (x.1.0) x.1.1) (x.1.0.1.1), filled_deep (act.elsif_span x.0 (x.1.0) x.1.1) x.1.1), (refl, tt, (refl, c_branch r, tt))), c_else r)
 
 c_if : (r : Bool) → Checks table (if_value r)
-unfolding table parameter_name bracketed_names more_parameters default_value no_default behind_name named_parameter bracketed_parameter rest_parameter block_parameter sign_parameter simple_parameters parameters block_parameters brace_parts do_parts body_behind def_name def_in_brackets def_plain def_value plain_call lambda_block empty_brackets full_brackets lambda_call called arrow_parameters plain_block arrow_value then_sign else_part branch otherwise if_value unless_value loop_body while_value until_value when_clause case_value class_header rescue_clause body_else body_ensure handlers begin_value module_body class_value module_value keyword_form newlines behind_newlines paren closed brace_block do_block block tail paren_tail keyword_value word_value integer_value text ivar_value gvar_value top_constant word_list embedded interpolated parenthesized array label_key pair_in_braces hash_value name_call constant_value super_value yield_value prim dot_part scope_part bracket post not_level power_level minus_level product_level sum_level shift_level comparison_level equal_level equality_level and_level or_level range_level ternary argument command_arguments command_part splat item more_items splat_list other_items one_value nested_value right_side jump_value jump command_level block_argument label_pair arrow_pair arguments_from arguments cargs more_pairs method_name not_expression expression alias_statement undef_statement simple modifier statement line statement_list
+unfolding table placed target star_target behind_target next_target more_targets starred_set several_set parameter_name bracketed_names more_parameters default_value no_default behind_name named_parameter bracketed_parameter rest_parameter block_parameter sign_parameter simple_parameters parameters block_parameters brace_parts do_parts body_behind def_name def_in_brackets def_plain def_value plain_call lambda_block empty_brackets full_brackets lambda_call called arrow_parameters plain_block arrow_value then_sign else_part branch otherwise if_value unless_value loop_body while_value until_value when_clause case_value class_header rescue_clause body_else body_ensure handlers begin_value module_body class_value module_value keyword_form newlines behind_newlines paren closed brace_block do_block block tail paren_tail keyword_value word_value integer_value text ivar_value gvar_value top_constant word_list embedded interpolated parenthesized array label_key pair_in_braces hash_value name_call constant_value super_value yield_value prim dot_part scope_part bracket post not_level power_level minus_level product_level sum_level shift_level comparison_level equal_level equality_level and_level or_level range_level ternary argument command_arguments command_part splat item more_items splat_list other_items one_value nested_value right_side jump_value jump command_level block_argument label_pair arrow_pair arguments_from arguments cargs more_pairs method_name not_expression expression alias_statement undef_statement simple modifier statement line statement_list
 c_if r = (λ x. omega (arith, d.depth_if (x.1.0.0) (act.filled (act.tokens x.0 (x.1.1.1)) (x.1.0.1.1)) (act.filled (act.tokens x.0 (x.1.1.1)) (x.1.1.0)) (act.tokens x.0 (x.1.1.1)) (act.start x.0), filled_deep (act.tokens x.0 (x.1.1.1)) (x.1.0.1.1), filled_deep (act.tokens x.0 (x.1.1.1)) (x.1.1.0)), (refl, tt, (refl, c_branch r, (refl, tt, tt))))
 
 c_unless : (r : Bool) → Checks table (unless_value r)
-unfolding table parameter_name bracketed_names more_parameters default_value no_default behind_name named_parameter bracketed_parameter rest_parameter block_parameter sign_parameter simple_parameters parameters block_parameters brace_parts do_parts body_behind def_name def_in_brackets def_plain def_value plain_call lambda_block empty_brackets full_brackets lambda_call called arrow_parameters plain_block arrow_value then_sign else_part branch otherwise if_value unless_value loop_body while_value until_value when_clause case_value class_header rescue_clause body_else body_ensure handlers begin_value module_body class_value module_value keyword_form newlines behind_newlines paren closed brace_block do_block block tail paren_tail keyword_value word_value integer_value text ivar_value gvar_value top_constant word_list embedded interpolated parenthesized array label_key pair_in_braces hash_value name_call constant_value super_value yield_value prim dot_part scope_part bracket post not_level power_level minus_level product_level sum_level shift_level comparison_level equal_level equality_level and_level or_level range_level ternary argument command_arguments command_part splat item more_items splat_list other_items one_value nested_value right_side jump_value jump command_level block_argument label_pair arrow_pair arguments_from arguments cargs more_pairs method_name not_expression expression alias_statement undef_statement simple modifier statement line statement_list
+unfolding table placed target star_target behind_target next_target more_targets starred_set several_set parameter_name bracketed_names more_parameters default_value no_default behind_name named_parameter bracketed_parameter rest_parameter block_parameter sign_parameter simple_parameters parameters block_parameters brace_parts do_parts body_behind def_name def_in_brackets def_plain def_value plain_call lambda_block empty_brackets full_brackets lambda_call called arrow_parameters plain_block arrow_value then_sign else_part branch otherwise if_value unless_value loop_body while_value until_value when_clause case_value class_header rescue_clause body_else body_ensure handlers begin_value module_body class_value module_value keyword_form newlines behind_newlines paren closed brace_block do_block block tail paren_tail keyword_value word_value integer_value text ivar_value gvar_value top_constant word_list embedded interpolated parenthesized array label_key pair_in_braces hash_value name_call constant_value super_value yield_value prim dot_part scope_part bracket post not_level power_level minus_level product_level sum_level shift_level comparison_level equal_level equality_level and_level or_level range_level ternary argument command_arguments command_part splat item more_items splat_list other_items one_value nested_value right_side jump_value jump command_level block_argument label_pair arrow_pair arguments_from arguments cargs more_pairs method_name not_expression expression alias_statement undef_statement simple modifier statement line statement_list
 c_unless r = (λ x. omega (arith, d.depth_if (x.1.0.0) (act.filled (act.tokens x.0 (x.1.1.1)) (x.1.1.0)) (act.filled (act.tokens x.0 (x.1.1.1)) (x.1.0.1.1)) (act.tokens x.0 (x.1.1.1)) (act.start x.0), filled_deep (act.tokens x.0 (x.1.1.1)) (x.1.0.1.1), filled_deep (act.tokens x.0 (x.1.1.1)) (x.1.1.0)), (refl, tt, (refl, c_branch r, (refl, c_else r, tt))))
 
 c_loop : (r : Bool) → Checks table (loop_body r)
-unfolding table parameter_name bracketed_names more_parameters default_value no_default behind_name named_parameter bracketed_parameter rest_parameter block_parameter sign_parameter simple_parameters parameters block_parameters brace_parts do_parts body_behind def_name def_in_brackets def_plain def_value plain_call lambda_block empty_brackets full_brackets lambda_call called arrow_parameters plain_block arrow_value then_sign else_part branch otherwise if_value unless_value loop_body while_value until_value when_clause case_value class_header rescue_clause body_else body_ensure handlers begin_value module_body class_value module_value keyword_form newlines behind_newlines paren closed brace_block do_block block tail paren_tail keyword_value word_value integer_value text ivar_value gvar_value top_constant word_list embedded interpolated parenthesized array label_key pair_in_braces hash_value name_call constant_value super_value yield_value prim dot_part scope_part bracket post not_level power_level minus_level product_level sum_level shift_level comparison_level equal_level equality_level and_level or_level range_level ternary argument command_arguments command_part splat item more_items splat_list other_items one_value nested_value right_side jump_value jump command_level block_argument label_pair arrow_pair arguments_from arguments cargs more_pairs method_name not_expression expression alias_statement undef_statement simple modifier statement line statement_list
+unfolding table placed target star_target behind_target next_target more_targets starred_set several_set parameter_name bracketed_names more_parameters default_value no_default behind_name named_parameter bracketed_parameter rest_parameter block_parameter sign_parameter simple_parameters parameters block_parameters brace_parts do_parts body_behind def_name def_in_brackets def_plain def_value plain_call lambda_block empty_brackets full_brackets lambda_call called arrow_parameters plain_block arrow_value then_sign else_part branch otherwise if_value unless_value loop_body while_value until_value when_clause case_value class_header rescue_clause body_else body_ensure handlers begin_value module_body class_value module_value keyword_form newlines behind_newlines paren closed brace_block do_block block tail paren_tail keyword_value word_value integer_value text ivar_value gvar_value top_constant word_list embedded interpolated parenthesized array label_key pair_in_braces hash_value name_call constant_value super_value yield_value prim dot_part scope_part bracket post not_level power_level minus_level product_level sum_level shift_level comparison_level equal_level equality_level and_level or_level range_level ternary argument command_arguments command_part splat item more_items splat_list other_items one_value nested_value right_side jump_value jump command_level block_argument label_pair arrow_pair arguments_from arguments cargs more_pairs method_name not_expression expression alias_statement undef_statement simple modifier statement line statement_list
 c_loop r = (λ x. omega arith, (refl, tt, (refl, tt, tt)))
 
 c_while : (r : Bool) → Checks table (while_value r)
-unfolding table parameter_name bracketed_names more_parameters default_value no_default behind_name named_parameter bracketed_parameter rest_parameter block_parameter sign_parameter simple_parameters parameters block_parameters brace_parts do_parts body_behind def_name def_in_brackets def_plain def_value plain_call lambda_block empty_brackets full_brackets lambda_call called arrow_parameters plain_block arrow_value then_sign else_part branch otherwise if_value unless_value loop_body while_value until_value when_clause case_value class_header rescue_clause body_else body_ensure handlers begin_value module_body class_value module_value keyword_form newlines behind_newlines paren closed brace_block do_block block tail paren_tail keyword_value word_value integer_value text ivar_value gvar_value top_constant word_list embedded interpolated parenthesized array label_key pair_in_braces hash_value name_call constant_value super_value yield_value prim dot_part scope_part bracket post not_level power_level minus_level product_level sum_level shift_level comparison_level equal_level equality_level and_level or_level range_level ternary argument command_arguments command_part splat item more_items splat_list other_items one_value nested_value right_side jump_value jump command_level block_argument label_pair arrow_pair arguments_from arguments cargs more_pairs method_name not_expression expression alias_statement undef_statement simple modifier statement line statement_list
+unfolding table placed target star_target behind_target next_target more_targets starred_set several_set parameter_name bracketed_names more_parameters default_value no_default behind_name named_parameter bracketed_parameter rest_parameter block_parameter sign_parameter simple_parameters parameters block_parameters brace_parts do_parts body_behind def_name def_in_brackets def_plain def_value plain_call lambda_block empty_brackets full_brackets lambda_call called arrow_parameters plain_block arrow_value then_sign else_part branch otherwise if_value unless_value loop_body while_value until_value when_clause case_value class_header rescue_clause body_else body_ensure handlers begin_value module_body class_value module_value keyword_form newlines behind_newlines paren closed brace_block do_block block tail paren_tail keyword_value word_value integer_value text ivar_value gvar_value top_constant word_list embedded interpolated parenthesized array label_key pair_in_braces hash_value name_call constant_value super_value yield_value prim dot_part scope_part bracket post not_level power_level minus_level product_level sum_level shift_level comparison_level equal_level equality_level and_level or_level range_level ternary argument command_arguments command_part splat item more_items splat_list other_items one_value nested_value right_side jump_value jump command_level block_argument label_pair arrow_pair arguments_from arguments cargs more_pairs method_name not_expression expression alias_statement undef_statement simple modifier statement line statement_list
 c_while r = (λ x. omega (arith, d.depth_while (x.1.0) (act.filled (act.tokens x.0 (x.1.1.1)) (x.1.1.0)) false (act.tokens x.0 (x.1.1.1)) (act.start x.0), filled_deep (act.tokens x.0 (x.1.1.1)) (x.1.1.0)), (refl, tt, (refl, tt, c_loop r)))
 
 c_until : (r : Bool) → Checks table (until_value r)
-unfolding table parameter_name bracketed_names more_parameters default_value no_default behind_name named_parameter bracketed_parameter rest_parameter block_parameter sign_parameter simple_parameters parameters block_parameters brace_parts do_parts body_behind def_name def_in_brackets def_plain def_value plain_call lambda_block empty_brackets full_brackets lambda_call called arrow_parameters plain_block arrow_value then_sign else_part branch otherwise if_value unless_value loop_body while_value until_value when_clause case_value class_header rescue_clause body_else body_ensure handlers begin_value module_body class_value module_value keyword_form newlines behind_newlines paren closed brace_block do_block block tail paren_tail keyword_value word_value integer_value text ivar_value gvar_value top_constant word_list embedded interpolated parenthesized array label_key pair_in_braces hash_value name_call constant_value super_value yield_value prim dot_part scope_part bracket post not_level power_level minus_level product_level sum_level shift_level comparison_level equal_level equality_level and_level or_level range_level ternary argument command_arguments command_part splat item more_items splat_list other_items one_value nested_value right_side jump_value jump command_level block_argument label_pair arrow_pair arguments_from arguments cargs more_pairs method_name not_expression expression alias_statement undef_statement simple modifier statement line statement_list
+unfolding table placed target star_target behind_target next_target more_targets starred_set several_set parameter_name bracketed_names more_parameters default_value no_default behind_name named_parameter bracketed_parameter rest_parameter block_parameter sign_parameter simple_parameters parameters block_parameters brace_parts do_parts body_behind def_name def_in_brackets def_plain def_value plain_call lambda_block empty_brackets full_brackets lambda_call called arrow_parameters plain_block arrow_value then_sign else_part branch otherwise if_value unless_value loop_body while_value until_value when_clause case_value class_header rescue_clause body_else body_ensure handlers begin_value module_body class_value module_value keyword_form newlines behind_newlines paren closed brace_block do_block block tail paren_tail keyword_value word_value integer_value text ivar_value gvar_value top_constant word_list embedded interpolated parenthesized array label_key pair_in_braces hash_value name_call constant_value super_value yield_value prim dot_part scope_part bracket post not_level power_level minus_level product_level sum_level shift_level comparison_level equal_level equality_level and_level or_level range_level ternary argument command_arguments command_part splat item more_items splat_list other_items one_value nested_value right_side jump_value jump command_level block_argument label_pair arrow_pair arguments_from arguments cargs more_pairs method_name not_expression expression alias_statement undef_statement simple modifier statement line statement_list
 c_until r = (inr (inl (λ x. omega arith)), (λ x. omega (arith, d.depth_while (act.replaced (act.tokens x.0 (x.1.1.1)) (act.start x.0) (x.1.0)) (act.filled (act.tokens x.0 (x.1.1.1)) (x.1.1.0)) false (act.tokens x.0 (x.1.1.1)) (act.start x.0), filled_deep (act.tokens x.0 (x.1.1.1)) (x.1.1.0), replaced_deep (act.tokens x.0 (x.1.1.1)) (act.start x.0) (x.1.0)), (refl, tt, (refl, (λ n. d.depth_not n n.span n.mark, tt), c_loop r))))
 
 c_when : (r : Bool) → Checks table (when_clause r)
-unfolding table parameter_name bracketed_names more_parameters default_value no_default behind_name named_parameter bracketed_parameter rest_parameter block_parameter sign_parameter simple_parameters parameters block_parameters brace_parts do_parts body_behind def_name def_in_brackets def_plain def_value plain_call lambda_block empty_brackets full_brackets lambda_call called arrow_parameters plain_block arrow_value then_sign else_part branch otherwise if_value unless_value loop_body while_value until_value when_clause case_value class_header rescue_clause body_else body_ensure handlers begin_value module_body class_value module_value keyword_form newlines behind_newlines paren closed brace_block do_block block tail paren_tail keyword_value word_value integer_value text ivar_value gvar_value top_constant word_list embedded interpolated parenthesized array label_key pair_in_braces hash_value name_call constant_value super_value yield_value prim dot_part scope_part bracket post not_level power_level minus_level product_level sum_level shift_level comparison_level equal_level equality_level and_level or_level range_level ternary argument command_arguments command_part splat item more_items splat_list other_items one_value nested_value right_side jump_value jump command_level block_argument label_pair arrow_pair arguments_from arguments cargs more_pairs method_name not_expression expression alias_statement undef_statement simple modifier statement line statement_list
+unfolding table placed target star_target behind_target next_target more_targets starred_set several_set parameter_name bracketed_names more_parameters default_value no_default behind_name named_parameter bracketed_parameter rest_parameter block_parameter sign_parameter simple_parameters parameters block_parameters brace_parts do_parts body_behind def_name def_in_brackets def_plain def_value plain_call lambda_block empty_brackets full_brackets lambda_call called arrow_parameters plain_block arrow_value then_sign else_part branch otherwise if_value unless_value loop_body while_value until_value when_clause case_value class_header rescue_clause body_else body_ensure handlers begin_value module_body class_value module_value keyword_form newlines behind_newlines paren closed brace_block do_block block tail paren_tail keyword_value word_value integer_value text ivar_value gvar_value top_constant word_list embedded interpolated parenthesized array label_key pair_in_braces hash_value name_call constant_value super_value yield_value prim dot_part scope_part bracket post not_level power_level minus_level product_level sum_level shift_level comparison_level equal_level equality_level and_level or_level range_level ternary argument command_arguments command_part splat item more_items splat_list other_items one_value nested_value right_side jump_value jump command_level block_argument label_pair arrow_pair arguments_from arguments cargs more_pairs method_name not_expression expression alias_statement undef_statement simple modifier statement line statement_list
 c_when r = (λ x. omega (arith, d.depth_when (x.1.0) (act.filled (act.to_end (act.span_of x.0) (act.last_of (x.1.1.0) (x.1.1.1))) (x.1.1.1)) (act.to_end (act.span_of x.0) (act.last_of (x.1.1.0) (x.1.1.1))) (act.start x.0), filled_deep (act.to_end (act.span_of x.0) (act.last_of (x.1.1.0) (x.1.1.1))) (x.1.1.1)), (refl, tt, (refl, (λ x. refl, (refl, tt, (refl, refl, (λ x. omega arith, (refl, tt, tt))))), (refl, c_then, tt))))
 
 c_case : (r : Bool) → Checks table (case_value r)
-unfolding table parameter_name bracketed_names more_parameters default_value no_default behind_name named_parameter bracketed_parameter rest_parameter block_parameter sign_parameter simple_parameters parameters block_parameters brace_parts do_parts body_behind def_name def_in_brackets def_plain def_value plain_call lambda_block empty_brackets full_brackets lambda_call called arrow_parameters plain_block arrow_value then_sign else_part branch otherwise if_value unless_value loop_body while_value until_value when_clause case_value class_header rescue_clause body_else body_ensure handlers begin_value module_body class_value module_value keyword_form newlines behind_newlines paren closed brace_block do_block block tail paren_tail keyword_value word_value integer_value text ivar_value gvar_value top_constant word_list embedded interpolated parenthesized array label_key pair_in_braces hash_value name_call constant_value super_value yield_value prim dot_part scope_part bracket post not_level power_level minus_level product_level sum_level shift_level comparison_level equal_level equality_level and_level or_level range_level ternary argument command_arguments command_part splat item more_items splat_list other_items one_value nested_value right_side jump_value jump command_level block_argument label_pair arrow_pair arguments_from arguments cargs more_pairs method_name not_expression expression alias_statement undef_statement simple modifier statement line statement_list
+unfolding table placed target star_target behind_target next_target more_targets starred_set several_set parameter_name bracketed_names more_parameters default_value no_default behind_name named_parameter bracketed_parameter rest_parameter block_parameter sign_parameter simple_parameters parameters block_parameters brace_parts do_parts body_behind def_name def_in_brackets def_plain def_value plain_call lambda_block empty_brackets full_brackets lambda_call called arrow_parameters plain_block arrow_value then_sign else_part branch otherwise if_value unless_value loop_body while_value until_value when_clause case_value class_header rescue_clause body_else body_ensure handlers begin_value module_body class_value module_value keyword_form newlines behind_newlines paren closed brace_block do_block block tail paren_tail keyword_value word_value integer_value text ivar_value gvar_value top_constant word_list embedded interpolated parenthesized array label_key pair_in_braces hash_value name_call constant_value super_value yield_value prim dot_part scope_part bracket post not_level power_level minus_level product_level sum_level shift_level comparison_level equal_level equality_level and_level or_level range_level ternary argument command_arguments command_part splat item more_items splat_list other_items one_value nested_value right_side jump_value jump command_level block_argument label_pair arrow_pair arguments_from arguments cargs more_pairs method_name not_expression expression alias_statement undef_statement simple modifier statement line statement_list
 c_case r = (λ x. omega (arith, d.depth_case (x.1.0) (x.1.1.1.0.0 ∷ x.1.1.1.0.1) (act.filled (act.tokens x.0 (x.1.1.1.1.1)) (x.1.1.1.1.0)) (act.tokens x.0 (x.1.1.1.1.1)) (act.start x.0), filled_deep (act.tokens x.0 (x.1.1.1.1.1)) (x.1.1.1.1.0), deepest_flat (x.1.1.0)), (refl, tt, (refl, (refl, refl, (λ x. refl, tt), tt), (refl, (refl, refl, tt), (refl, (refl, c_when r, (refl, refl, c_when r)), (refl, c_else r, tt))))))
 
 c_header : (r : Bool) → Checks table (class_header r)
-unfolding table parameter_name bracketed_names more_parameters default_value no_default behind_name named_parameter bracketed_parameter rest_parameter block_parameter sign_parameter simple_parameters parameters block_parameters brace_parts do_parts body_behind def_name def_in_brackets def_plain def_value plain_call lambda_block empty_brackets full_brackets lambda_call called arrow_parameters plain_block arrow_value then_sign else_part branch otherwise if_value unless_value loop_body while_value until_value when_clause case_value class_header rescue_clause body_else body_ensure handlers begin_value module_body class_value module_value keyword_form newlines behind_newlines paren closed brace_block do_block block tail paren_tail keyword_value word_value integer_value text ivar_value gvar_value top_constant word_list embedded interpolated parenthesized array label_key pair_in_braces hash_value name_call constant_value super_value yield_value prim dot_part scope_part bracket post not_level power_level minus_level product_level sum_level shift_level comparison_level equal_level equality_level and_level or_level range_level ternary argument command_arguments command_part splat item more_items splat_list other_items one_value nested_value right_side jump_value jump command_level block_argument label_pair arrow_pair arguments_from arguments cargs more_pairs method_name not_expression expression alias_statement undef_statement simple modifier statement line statement_list
+unfolding table placed target star_target behind_target next_target more_targets starred_set several_set parameter_name bracketed_names more_parameters default_value no_default behind_name named_parameter bracketed_parameter rest_parameter block_parameter sign_parameter simple_parameters parameters block_parameters brace_parts do_parts body_behind def_name def_in_brackets def_plain def_value plain_call lambda_block empty_brackets full_brackets lambda_call called arrow_parameters plain_block arrow_value then_sign else_part branch otherwise if_value unless_value loop_body while_value until_value when_clause case_value class_header rescue_clause body_else body_ensure handlers begin_value module_body class_value module_value keyword_form newlines behind_newlines paren closed brace_block do_block block tail paren_tail keyword_value word_value integer_value text ivar_value gvar_value top_constant word_list embedded interpolated parenthesized array label_key pair_in_braces hash_value name_call constant_value super_value yield_value prim dot_part scope_part bracket post not_level power_level minus_level product_level sum_level shift_level comparison_level equal_level equality_level and_level or_level range_level ternary argument command_arguments command_part splat item more_items splat_list other_items one_value nested_value right_side jump_value jump command_level block_argument label_pair arrow_pair arguments_from arguments cargs more_pairs method_name not_expression expression alias_statement undef_statement simple modifier statement line statement_list
 c_header r = (refl, refl, (refl, (λ x. refl, tt), (refl, refl, (λ x. refl, (λ x. omega arith, (refl, tt, tt))), tt)), (λ x. omega arith, (λ x. omega arith, (refl, tt, tt))))
 
 c_rescue : (r : Bool) → Checks table (rescue_clause r)
-unfolding table parameter_name bracketed_names more_parameters default_value no_default behind_name named_parameter bracketed_parameter rest_parameter block_parameter sign_parameter simple_parameters parameters block_parameters brace_parts do_parts body_behind def_name def_in_brackets def_plain def_value plain_call lambda_block empty_brackets full_brackets lambda_call called arrow_parameters plain_block arrow_value then_sign else_part branch otherwise if_value unless_value loop_body while_value until_value when_clause case_value class_header rescue_clause body_else body_ensure handlers begin_value module_body class_value module_value keyword_form newlines behind_newlines paren closed brace_block do_block block tail paren_tail keyword_value word_value integer_value text ivar_value gvar_value top_constant word_list embedded interpolated parenthesized array label_key pair_in_braces hash_value name_call constant_value super_value yield_value prim dot_part scope_part bracket post not_level power_level minus_level product_level sum_level shift_level comparison_level equal_level equality_level and_level or_level range_level ternary argument command_arguments command_part splat item more_items splat_list other_items one_value nested_value right_side jump_value jump command_level block_argument label_pair arrow_pair arguments_from arguments cargs more_pairs method_name not_expression expression alias_statement undef_statement simple modifier statement line statement_list
+unfolding table placed target star_target behind_target next_target more_targets starred_set several_set parameter_name bracketed_names more_parameters default_value no_default behind_name named_parameter bracketed_parameter rest_parameter block_parameter sign_parameter simple_parameters parameters block_parameters brace_parts do_parts body_behind def_name def_in_brackets def_plain def_value plain_call lambda_block empty_brackets full_brackets lambda_call called arrow_parameters plain_block arrow_value then_sign else_part branch otherwise if_value unless_value loop_body while_value until_value when_clause case_value class_header rescue_clause body_else body_ensure handlers begin_value module_body class_value module_value keyword_form newlines behind_newlines paren closed brace_block do_block block tail paren_tail keyword_value word_value integer_value text ivar_value gvar_value top_constant word_list embedded interpolated parenthesized array label_key pair_in_braces hash_value name_call constant_value super_value yield_value prim dot_part scope_part bracket post not_level power_level minus_level product_level sum_level shift_level comparison_level equal_level equality_level and_level or_level range_level ternary argument command_arguments command_part splat item more_items splat_list other_items one_value nested_value right_side jump_value jump command_level block_argument label_pair arrow_pair arguments_from arguments cargs more_pairs method_name not_expression expression alias_statement undef_statement simple modifier statement line statement_list
 c_rescue r = (λ x. omega (arith, d.depth_rescue (x.1.0) (act.name_if (x.1.1.0)) (act.filled (act.to_end (act.span_of x.0) (act.last_of (x.1.1.1.0) (x.1.1.1.1))) (x.1.1.1.1)) (act.to_end (act.span_of x.0) (act.last_of (x.1.1.1.0) (x.1.1.1.1))) (act.rescue_place x.0 (x.1.1.0)), filled_deep (act.to_end (act.span_of x.0) (act.last_of (x.1.1.1.0) (x.1.1.1.1))) (x.1.1.1.1), flat_option (x.1.1.0)), (refl, tt, (refl, (refl, refl, (λ x. refl, (refl, tt, (refl, refl, (λ x. omega arith, (refl, tt, tt))))), tt), (refl, (refl, refl, (λ x. refl, (λ x. omega arith, (refl, tt, tt))), tt), (refl, c_then, tt)))))
 
 c_body_else : (r : Bool) → Checks table (body_else r)
-unfolding table parameter_name bracketed_names more_parameters default_value no_default behind_name named_parameter bracketed_parameter rest_parameter block_parameter sign_parameter simple_parameters parameters block_parameters brace_parts do_parts body_behind def_name def_in_brackets def_plain def_value plain_call lambda_block empty_brackets full_brackets lambda_call called arrow_parameters plain_block arrow_value then_sign else_part branch otherwise if_value unless_value loop_body while_value until_value when_clause case_value class_header rescue_clause body_else body_ensure handlers begin_value module_body class_value module_value keyword_form newlines behind_newlines paren closed brace_block do_block block tail paren_tail keyword_value word_value integer_value text ivar_value gvar_value top_constant word_list embedded interpolated parenthesized array label_key pair_in_braces hash_value name_call constant_value super_value yield_value prim dot_part scope_part bracket post not_level power_level minus_level product_level sum_level shift_level comparison_level equal_level equality_level and_level or_level range_level ternary argument command_arguments command_part splat item more_items splat_list other_items one_value nested_value right_side jump_value jump command_level block_argument label_pair arrow_pair arguments_from arguments cargs more_pairs method_name not_expression expression alias_statement undef_statement simple modifier statement line statement_list
+unfolding table placed target star_target behind_target next_target more_targets starred_set several_set parameter_name bracketed_names more_parameters default_value no_default behind_name named_parameter bracketed_parameter rest_parameter block_parameter sign_parameter simple_parameters parameters block_parameters brace_parts do_parts body_behind def_name def_in_brackets def_plain def_value plain_call lambda_block empty_brackets full_brackets lambda_call called arrow_parameters plain_block arrow_value then_sign else_part branch otherwise if_value unless_value loop_body while_value until_value when_clause case_value class_header rescue_clause body_else body_ensure handlers begin_value module_body class_value module_value keyword_form newlines behind_newlines paren closed brace_block do_block block tail paren_tail keyword_value word_value integer_value text ivar_value gvar_value top_constant word_list embedded interpolated parenthesized array label_key pair_in_braces hash_value name_call constant_value super_value yield_value prim dot_part scope_part bracket post not_level power_level minus_level product_level sum_level shift_level comparison_level equal_level equality_level and_level or_level range_level ternary argument command_arguments command_part splat item more_items splat_list other_items one_value nested_value right_side jump_value jump command_level block_argument label_pair arrow_pair arguments_from arguments cargs more_pairs method_name not_expression expression alias_statement undef_statement simple modifier statement line statement_list
 c_body_else r = (refl, tt, tt)
 
 c_body_ensure : (r : Bool) → Checks table (body_ensure r)
-unfolding table parameter_name bracketed_names more_parameters default_value no_default behind_name named_parameter bracketed_parameter rest_parameter block_parameter sign_parameter simple_parameters parameters block_parameters brace_parts do_parts body_behind def_name def_in_brackets def_plain def_value plain_call lambda_block empty_brackets full_brackets lambda_call called arrow_parameters plain_block arrow_value then_sign else_part branch otherwise if_value unless_value loop_body while_value until_value when_clause case_value class_header rescue_clause body_else body_ensure handlers begin_value module_body class_value module_value keyword_form newlines behind_newlines paren closed brace_block do_block block tail paren_tail keyword_value word_value integer_value text ivar_value gvar_value top_constant word_list embedded interpolated parenthesized array label_key pair_in_braces hash_value name_call constant_value super_value yield_value prim dot_part scope_part bracket post not_level power_level minus_level product_level sum_level shift_level comparison_level equal_level equality_level and_level or_level range_level ternary argument command_arguments command_part splat item more_items splat_list other_items one_value nested_value right_side jump_value jump command_level block_argument label_pair arrow_pair arguments_from arguments cargs more_pairs method_name not_expression expression alias_statement undef_statement simple modifier statement line statement_list
+unfolding table placed target star_target behind_target next_target more_targets starred_set several_set parameter_name bracketed_names more_parameters default_value no_default behind_name named_parameter bracketed_parameter rest_parameter block_parameter sign_parameter simple_parameters parameters block_parameters brace_parts do_parts body_behind def_name def_in_brackets def_plain def_value plain_call lambda_block empty_brackets full_brackets lambda_call called arrow_parameters plain_block arrow_value then_sign else_part branch otherwise if_value unless_value loop_body while_value until_value when_clause case_value class_header rescue_clause body_else body_ensure handlers begin_value module_body class_value module_value keyword_form newlines behind_newlines paren closed brace_block do_block block tail paren_tail keyword_value word_value integer_value text ivar_value gvar_value top_constant word_list embedded interpolated parenthesized array label_key pair_in_braces hash_value name_call constant_value super_value yield_value prim dot_part scope_part bracket post not_level power_level minus_level product_level sum_level shift_level comparison_level equal_level equality_level and_level or_level range_level ternary argument command_arguments command_part splat item more_items splat_list other_items one_value nested_value right_side jump_value jump command_level block_argument label_pair arrow_pair arguments_from arguments cargs more_pairs method_name not_expression expression alias_statement undef_statement simple modifier statement line statement_list
 c_body_ensure r = (refl, tt, tt)
 
 c_handlers : (r : Bool) → Checks table (handlers r)
-unfolding table parameter_name bracketed_names more_parameters default_value no_default behind_name named_parameter bracketed_parameter rest_parameter block_parameter sign_parameter simple_parameters parameters block_parameters brace_parts do_parts body_behind def_name def_in_brackets def_plain def_value plain_call lambda_block empty_brackets full_brackets lambda_call called arrow_parameters plain_block arrow_value then_sign else_part branch otherwise if_value unless_value loop_body while_value until_value when_clause case_value class_header rescue_clause body_else body_ensure handlers begin_value module_body class_value module_value keyword_form newlines behind_newlines paren closed brace_block do_block block tail paren_tail keyword_value word_value integer_value text ivar_value gvar_value top_constant word_list embedded interpolated parenthesized array label_key pair_in_braces hash_value name_call constant_value super_value yield_value prim dot_part scope_part bracket post not_level power_level minus_level product_level sum_level shift_level comparison_level equal_level equality_level and_level or_level range_level ternary argument command_arguments command_part splat item more_items splat_list other_items one_value nested_value right_side jump_value jump command_level block_argument label_pair arrow_pair arguments_from arguments cargs more_pairs method_name not_expression expression alias_statement undef_statement simple modifier statement line statement_list
+unfolding table placed target star_target behind_target next_target more_targets starred_set several_set parameter_name bracketed_names more_parameters default_value no_default behind_name named_parameter bracketed_parameter rest_parameter block_parameter sign_parameter simple_parameters parameters block_parameters brace_parts do_parts body_behind def_name def_in_brackets def_plain def_value plain_call lambda_block empty_brackets full_brackets lambda_call called arrow_parameters plain_block arrow_value then_sign else_part branch otherwise if_value unless_value loop_body while_value until_value when_clause case_value class_header rescue_clause body_else body_ensure handlers begin_value module_body class_value module_value keyword_form newlines behind_newlines paren closed brace_block do_block block tail paren_tail keyword_value word_value integer_value text ivar_value gvar_value top_constant word_list embedded interpolated parenthesized array label_key pair_in_braces hash_value name_call constant_value super_value yield_value prim dot_part scope_part bracket post not_level power_level minus_level product_level sum_level shift_level comparison_level equal_level equality_level and_level or_level range_level ternary argument command_arguments command_part splat item more_items splat_list other_items one_value nested_value right_side jump_value jump command_level block_argument label_pair arrow_pair arguments_from arguments cargs more_pairs method_name not_expression expression alias_statement undef_statement simple modifier statement line statement_list
 c_handlers r = (refl, refl, (λ x. omega arith, (refl, (refl, c_rescue r, (refl, refl, c_rescue r)), (refl, (refl, refl, (λ x. refl, c_body_else r), tt), (refl, refl, (λ x. refl, c_body_ensure r), tt)))), (refl, refl, (λ x. omega arith, (refl, c_body_else r, (refl, refl, (λ x. refl, c_body_ensure r), tt))), (λ x. omega arith, c_body_ensure r)))
 
 c_begin : (r : Bool) → Checks table (begin_value r)
-unfolding table parameter_name bracketed_names more_parameters default_value no_default behind_name named_parameter bracketed_parameter rest_parameter block_parameter sign_parameter simple_parameters parameters block_parameters brace_parts do_parts body_behind def_name def_in_brackets def_plain def_value plain_call lambda_block empty_brackets full_brackets lambda_call called arrow_parameters plain_block arrow_value then_sign else_part branch otherwise if_value unless_value loop_body while_value until_value when_clause case_value class_header rescue_clause body_else body_ensure handlers begin_value module_body class_value module_value keyword_form newlines behind_newlines paren closed brace_block do_block block tail paren_tail keyword_value word_value integer_value text ivar_value gvar_value top_constant word_list embedded interpolated parenthesized array label_key pair_in_braces hash_value name_call constant_value super_value yield_value prim dot_part scope_part bracket post not_level power_level minus_level product_level sum_level shift_level comparison_level equal_level equality_level and_level or_level range_level ternary argument command_arguments command_part splat item more_items splat_list other_items one_value nested_value right_side jump_value jump command_level block_argument label_pair arrow_pair arguments_from arguments cargs more_pairs method_name not_expression expression alias_statement undef_statement simple modifier statement line statement_list
+unfolding table placed target star_target behind_target next_target more_targets starred_set several_set parameter_name bracketed_names more_parameters default_value no_default behind_name named_parameter bracketed_parameter rest_parameter block_parameter sign_parameter simple_parameters parameters block_parameters brace_parts do_parts body_behind def_name def_in_brackets def_plain def_value plain_call lambda_block empty_brackets full_brackets lambda_call called arrow_parameters plain_block arrow_value then_sign else_part branch otherwise if_value unless_value loop_body while_value until_value when_clause case_value class_header rescue_clause body_else body_ensure handlers begin_value module_body class_value module_value keyword_form newlines behind_newlines paren closed brace_block do_block block tail paren_tail keyword_value word_value integer_value text ivar_value gvar_value top_constant word_list embedded interpolated parenthesized array label_key pair_in_braces hash_value name_call constant_value super_value yield_value prim dot_part scope_part bracket post not_level power_level minus_level product_level sum_level shift_level comparison_level equal_level equality_level and_level or_level range_level ternary argument command_arguments command_part splat item more_items splat_list other_items one_value nested_value right_side jump_value jump command_level block_argument label_pair arrow_pair arguments_from arguments cargs more_pairs method_name not_expression expression alias_statement undef_statement simple modifier statement line statement_list
 c_begin r = (λ x. omega (arith, replaced_deep (act.tokens (x.0.0) x.1) (act.start (x.0.0)) (x.0.1.0)), (refl, (inl refl, refl, refl, (λ l x k. omega (arith, handlers_deep l x)), (refl, tt, tt), c_handlers r), tt))
 
 c_method : Checks table (method_name)
-unfolding table parameter_name bracketed_names more_parameters default_value no_default behind_name named_parameter bracketed_parameter rest_parameter block_parameter sign_parameter simple_parameters parameters block_parameters brace_parts do_parts body_behind def_name def_in_brackets def_plain def_value plain_call lambda_block empty_brackets full_brackets lambda_call called arrow_parameters plain_block arrow_value then_sign else_part branch otherwise if_value unless_value loop_body while_value until_value when_clause case_value class_header rescue_clause body_else body_ensure handlers begin_value module_body class_value module_value keyword_form newlines behind_newlines paren closed brace_block do_block block tail paren_tail keyword_value word_value integer_value text ivar_value gvar_value top_constant word_list embedded interpolated parenthesized array label_key pair_in_braces hash_value name_call constant_value super_value yield_value prim dot_part scope_part bracket post not_level power_level minus_level product_level sum_level shift_level comparison_level equal_level equality_level and_level or_level range_level ternary argument command_arguments command_part splat item more_items splat_list other_items one_value nested_value right_side jump_value jump command_level block_argument label_pair arrow_pair arguments_from arguments cargs more_pairs method_name not_expression expression alias_statement undef_statement simple modifier statement line statement_list
+unfolding table placed target star_target behind_target next_target more_targets starred_set several_set parameter_name bracketed_names more_parameters default_value no_default behind_name named_parameter bracketed_parameter rest_parameter block_parameter sign_parameter simple_parameters parameters block_parameters brace_parts do_parts body_behind def_name def_in_brackets def_plain def_value plain_call lambda_block empty_brackets full_brackets lambda_call called arrow_parameters plain_block arrow_value then_sign else_part branch otherwise if_value unless_value loop_body while_value until_value when_clause case_value class_header rescue_clause body_else body_ensure handlers begin_value module_body class_value module_value keyword_form newlines behind_newlines paren closed brace_block do_block block tail paren_tail keyword_value word_value integer_value text ivar_value gvar_value top_constant word_list embedded interpolated parenthesized array label_key pair_in_braces hash_value name_call constant_value super_value yield_value prim dot_part scope_part bracket post not_level power_level minus_level product_level sum_level shift_level comparison_level equal_level equality_level and_level or_level range_level ternary argument command_arguments command_part splat item more_items splat_list other_items one_value nested_value right_side jump_value jump command_level block_argument label_pair arrow_pair arguments_from arguments cargs more_pairs method_name not_expression expression alias_statement undef_statement simple modifier statement line statement_list
 c_method = (refl, refl, (refl, tt, (refl, refl, (λ x. refl, tt), tt)), (refl, tt, tt))
 
 c_def_name : Checks table (def_name)
-unfolding table parameter_name bracketed_names more_parameters default_value no_default behind_name named_parameter bracketed_parameter rest_parameter block_parameter sign_parameter simple_parameters parameters block_parameters brace_parts do_parts body_behind def_name def_in_brackets def_plain def_value plain_call lambda_block empty_brackets full_brackets lambda_call called arrow_parameters plain_block arrow_value then_sign else_part branch otherwise if_value unless_value loop_body while_value until_value when_clause case_value class_header rescue_clause body_else body_ensure handlers begin_value module_body class_value module_value keyword_form newlines behind_newlines paren closed brace_block do_block block tail paren_tail keyword_value word_value integer_value text ivar_value gvar_value top_constant word_list embedded interpolated parenthesized array label_key pair_in_braces hash_value name_call constant_value super_value yield_value prim dot_part scope_part bracket post not_level power_level minus_level product_level sum_level shift_level comparison_level equal_level equality_level and_level or_level range_level ternary argument command_arguments command_part splat item more_items splat_list other_items one_value nested_value right_side jump_value jump command_level block_argument label_pair arrow_pair arguments_from arguments cargs more_pairs method_name not_expression expression alias_statement undef_statement simple modifier statement line statement_list
+unfolding table placed target star_target behind_target next_target more_targets starred_set several_set parameter_name bracketed_names more_parameters default_value no_default behind_name named_parameter bracketed_parameter rest_parameter block_parameter sign_parameter simple_parameters parameters block_parameters brace_parts do_parts body_behind def_name def_in_brackets def_plain def_value plain_call lambda_block empty_brackets full_brackets lambda_call called arrow_parameters plain_block arrow_value then_sign else_part branch otherwise if_value unless_value loop_body while_value until_value when_clause case_value class_header rescue_clause body_else body_ensure handlers begin_value module_body class_value module_value keyword_form newlines behind_newlines paren closed brace_block do_block block tail paren_tail keyword_value word_value integer_value text ivar_value gvar_value top_constant word_list embedded interpolated parenthesized array label_key pair_in_braces hash_value name_call constant_value super_value yield_value prim dot_part scope_part bracket post not_level power_level minus_level product_level sum_level shift_level comparison_level equal_level equality_level and_level or_level range_level ternary argument command_arguments command_part splat item more_items splat_list other_items one_value nested_value right_side jump_value jump command_level block_argument label_pair arrow_pair arguments_from arguments cargs more_pairs method_name not_expression expression alias_statement undef_statement simple modifier statement line statement_list
 c_def_name = (inl refl, refl, refl, (λ l x k. on_deep l x k), (λ x. omega arith, c_method), (λ x. omega arith, (refl, tt, c_method)))
 
 c_def_in_brackets : Checks table (def_in_brackets)
-unfolding table parameter_name bracketed_names more_parameters default_value no_default behind_name named_parameter bracketed_parameter rest_parameter block_parameter sign_parameter simple_parameters parameters block_parameters brace_parts do_parts body_behind def_name def_in_brackets def_plain def_value plain_call lambda_block empty_brackets full_brackets lambda_call called arrow_parameters plain_block arrow_value then_sign else_part branch otherwise if_value unless_value loop_body while_value until_value when_clause case_value class_header rescue_clause body_else body_ensure handlers begin_value module_body class_value module_value keyword_form newlines behind_newlines paren closed brace_block do_block block tail paren_tail keyword_value word_value integer_value text ivar_value gvar_value top_constant word_list embedded interpolated parenthesized array label_key pair_in_braces hash_value name_call constant_value super_value yield_value prim dot_part scope_part bracket post not_level power_level minus_level product_level sum_level shift_level comparison_level equal_level equality_level and_level or_level range_level ternary argument command_arguments command_part splat item more_items splat_list other_items one_value nested_value right_side jump_value jump command_level block_argument label_pair arrow_pair arguments_from arguments cargs more_pairs method_name not_expression expression alias_statement undef_statement simple modifier statement line statement_list
+unfolding table placed target star_target behind_target next_target more_targets starred_set several_set parameter_name bracketed_names more_parameters default_value no_default behind_name named_parameter bracketed_parameter rest_parameter block_parameter sign_parameter simple_parameters parameters block_parameters brace_parts do_parts body_behind def_name def_in_brackets def_plain def_value plain_call lambda_block empty_brackets full_brackets lambda_call called arrow_parameters plain_block arrow_value then_sign else_part branch otherwise if_value unless_value loop_body while_value until_value when_clause case_value class_header rescue_clause body_else body_ensure handlers begin_value module_body class_value module_value keyword_form newlines behind_newlines paren closed brace_block do_block block tail paren_tail keyword_value word_value integer_value text ivar_value gvar_value top_constant word_list embedded interpolated parenthesized array label_key pair_in_braces hash_value name_call constant_value super_value yield_value prim dot_part scope_part bracket post not_level power_level minus_level product_level sum_level shift_level comparison_level equal_level equality_level and_level or_level range_level ternary argument command_arguments command_part splat item more_items splat_list other_items one_value nested_value right_side jump_value jump command_level block_argument label_pair arrow_pair arguments_from arguments cargs more_pairs method_name not_expression expression alias_statement undef_statement simple modifier statement line statement_list
 c_def_in_brackets = (
   λ x. omega arith,
   (refl, tt, (refl, (refl, refl, tt, tt), (refl, (inl refl, refl, refl, (λ l x k. omega (arith, handlers_deep l x)), (refl, (λ x. omega (arith, deepest_flat x.0), (refl, c_newlines, tt)), tt), c_handlers false), tt))),
 )
 
 c_def_plain : Checks table (def_plain)
-unfolding table parameter_name bracketed_names more_parameters default_value no_default behind_name named_parameter bracketed_parameter rest_parameter block_parameter sign_parameter simple_parameters parameters block_parameters brace_parts do_parts body_behind def_name def_in_brackets def_plain def_value plain_call lambda_block empty_brackets full_brackets lambda_call called arrow_parameters plain_block arrow_value then_sign else_part branch otherwise if_value unless_value loop_body while_value until_value when_clause case_value class_header rescue_clause body_else body_ensure handlers begin_value module_body class_value module_value keyword_form newlines behind_newlines paren closed brace_block do_block block tail paren_tail keyword_value word_value integer_value text ivar_value gvar_value top_constant word_list embedded interpolated parenthesized array label_key pair_in_braces hash_value name_call constant_value super_value yield_value prim dot_part scope_part bracket post not_level power_level minus_level product_level sum_level shift_level comparison_level equal_level equality_level and_level or_level range_level ternary argument command_arguments command_part splat item more_items splat_list other_items one_value nested_value right_side jump_value jump command_level block_argument label_pair arrow_pair arguments_from arguments cargs more_pairs method_name not_expression expression alias_statement undef_statement simple modifier statement line statement_list
+unfolding table placed target star_target behind_target next_target more_targets starred_set several_set parameter_name bracketed_names more_parameters default_value no_default behind_name named_parameter bracketed_parameter rest_parameter block_parameter sign_parameter simple_parameters parameters block_parameters brace_parts do_parts body_behind def_name def_in_brackets def_plain def_value plain_call lambda_block empty_brackets full_brackets lambda_call called arrow_parameters plain_block arrow_value then_sign else_part branch otherwise if_value unless_value loop_body while_value until_value when_clause case_value class_header rescue_clause body_else body_ensure handlers begin_value module_body class_value module_value keyword_form newlines behind_newlines paren closed brace_block do_block block tail paren_tail keyword_value word_value integer_value text ivar_value gvar_value top_constant word_list embedded interpolated parenthesized array label_key pair_in_braces hash_value name_call constant_value super_value yield_value prim dot_part scope_part bracket post not_level power_level minus_level product_level sum_level shift_level comparison_level equal_level equality_level and_level or_level range_level ternary argument command_arguments command_part splat item more_items splat_list other_items one_value nested_value right_side jump_value jump command_level block_argument label_pair arrow_pair arguments_from arguments cargs more_pairs method_name not_expression expression alias_statement undef_statement simple modifier statement line statement_list
 c_def_plain = (refl, (refl, refl, tt, tt), (refl, (inl refl, refl, refl, (λ l x k. omega (arith, handlers_deep l x)), (refl, tt, tt), c_handlers false), tt))
 
 c_def : Checks table (def_value)
-unfolding table parameter_name bracketed_names more_parameters default_value no_default behind_name named_parameter bracketed_parameter rest_parameter block_parameter sign_parameter simple_parameters parameters block_parameters brace_parts do_parts body_behind def_name def_in_brackets def_plain def_value plain_call lambda_block empty_brackets full_brackets lambda_call called arrow_parameters plain_block arrow_value then_sign else_part branch otherwise if_value unless_value loop_body while_value until_value when_clause case_value class_header rescue_clause body_else body_ensure handlers begin_value module_body class_value module_value keyword_form newlines behind_newlines paren closed brace_block do_block block tail paren_tail keyword_value word_value integer_value text ivar_value gvar_value top_constant word_list embedded interpolated parenthesized array label_key pair_in_braces hash_value name_call constant_value super_value yield_value prim dot_part scope_part bracket post not_level power_level minus_level product_level sum_level shift_level comparison_level equal_level equality_level and_level or_level range_level ternary argument command_arguments command_part splat item more_items splat_list other_items one_value nested_value right_side jump_value jump command_level block_argument label_pair arrow_pair arguments_from arguments cargs more_pairs method_name not_expression expression alias_statement undef_statement simple modifier statement line statement_list
+unfolding table placed target star_target behind_target next_target more_targets starred_set several_set parameter_name bracketed_names more_parameters default_value no_default behind_name named_parameter bracketed_parameter rest_parameter block_parameter sign_parameter simple_parameters parameters block_parameters brace_parts do_parts body_behind def_name def_in_brackets def_plain def_value plain_call lambda_block empty_brackets full_brackets lambda_call called arrow_parameters plain_block arrow_value then_sign else_part branch otherwise if_value unless_value loop_body while_value until_value when_clause case_value class_header rescue_clause body_else body_ensure handlers begin_value module_body class_value module_value keyword_form newlines behind_newlines paren closed brace_block do_block block tail paren_tail keyword_value word_value integer_value text ivar_value gvar_value top_constant word_list embedded interpolated parenthesized array label_key pair_in_braces hash_value name_call constant_value super_value yield_value prim dot_part scope_part bracket post not_level power_level minus_level product_level sum_level shift_level comparison_level equal_level equality_level and_level or_level range_level ternary argument command_arguments command_part splat item more_items splat_list other_items one_value nested_value right_side jump_value jump command_level block_argument label_pair arrow_pair arguments_from arguments cargs more_pairs method_name not_expression expression alias_statement undef_statement simple modifier statement line statement_list
 c_def = (λ x. omega (arith, def_deep (x.1.0) (x.1.1.0) (x.1.1.1.0.1) (act.tokens x.0 (x.1.1.1.1)), flat_option (x.1.0.1.1)), (refl, tt, (refl, c_def_name, (refl, refl, c_def_in_brackets, c_def_plain))))
 
 c_module_body : Checks table (module_body)
-unfolding table parameter_name bracketed_names more_parameters default_value no_default behind_name named_parameter bracketed_parameter rest_parameter block_parameter sign_parameter simple_parameters parameters block_parameters brace_parts do_parts body_behind def_name def_in_brackets def_plain def_value plain_call lambda_block empty_brackets full_brackets lambda_call called arrow_parameters plain_block arrow_value then_sign else_part branch otherwise if_value unless_value loop_body while_value until_value when_clause case_value class_header rescue_clause body_else body_ensure handlers begin_value module_body class_value module_value keyword_form newlines behind_newlines paren closed brace_block do_block block tail paren_tail keyword_value word_value integer_value text ivar_value gvar_value top_constant word_list embedded interpolated parenthesized array label_key pair_in_braces hash_value name_call constant_value super_value yield_value prim dot_part scope_part bracket post not_level power_level minus_level product_level sum_level shift_level comparison_level equal_level equality_level and_level or_level range_level ternary argument command_arguments command_part splat item more_items splat_list other_items one_value nested_value right_side jump_value jump command_level block_argument label_pair arrow_pair arguments_from arguments cargs more_pairs method_name not_expression expression alias_statement undef_statement simple modifier statement line statement_list
+unfolding table placed target star_target behind_target next_target more_targets starred_set several_set parameter_name bracketed_names more_parameters default_value no_default behind_name named_parameter bracketed_parameter rest_parameter block_parameter sign_parameter simple_parameters parameters block_parameters brace_parts do_parts body_behind def_name def_in_brackets def_plain def_value plain_call lambda_block empty_brackets full_brackets lambda_call called arrow_parameters plain_block arrow_value then_sign else_part branch otherwise if_value unless_value loop_body while_value until_value when_clause case_value class_header rescue_clause body_else body_ensure handlers begin_value module_body class_value module_value keyword_form newlines behind_newlines paren closed brace_block do_block block tail paren_tail keyword_value word_value integer_value text ivar_value gvar_value top_constant word_list embedded interpolated parenthesized array label_key pair_in_braces hash_value name_call constant_value super_value yield_value prim dot_part scope_part bracket post not_level power_level minus_level product_level sum_level shift_level comparison_level equal_level equality_level and_level or_level range_level ternary argument command_arguments command_part splat item more_items splat_list other_items one_value nested_value right_side jump_value jump command_level block_argument label_pair arrow_pair arguments_from arguments cargs more_pairs method_name not_expression expression alias_statement undef_statement simple modifier statement line statement_list
 c_module_body = (λ x. omega arith, (refl, tt, (refl, tt, tt)))
 
 c_class : (r : Bool) → Checks table (class_value r)
-unfolding table parameter_name bracketed_names more_parameters default_value no_default behind_name named_parameter bracketed_parameter rest_parameter block_parameter sign_parameter simple_parameters parameters block_parameters brace_parts do_parts body_behind def_name def_in_brackets def_plain def_value plain_call lambda_block empty_brackets full_brackets lambda_call called arrow_parameters plain_block arrow_value then_sign else_part branch otherwise if_value unless_value loop_body while_value until_value when_clause case_value class_header rescue_clause body_else body_ensure handlers begin_value module_body class_value module_value keyword_form newlines behind_newlines paren closed brace_block do_block block tail paren_tail keyword_value word_value integer_value text ivar_value gvar_value top_constant word_list embedded interpolated parenthesized array label_key pair_in_braces hash_value name_call constant_value super_value yield_value prim dot_part scope_part bracket post not_level power_level minus_level product_level sum_level shift_level comparison_level equal_level equality_level and_level or_level range_level ternary argument command_arguments command_part splat item more_items splat_list other_items one_value nested_value right_side jump_value jump command_level block_argument label_pair arrow_pair arguments_from arguments cargs more_pairs method_name not_expression expression alias_statement undef_statement simple modifier statement line statement_list
+unfolding table placed target star_target behind_target next_target more_targets starred_set several_set parameter_name bracketed_names more_parameters default_value no_default behind_name named_parameter bracketed_parameter rest_parameter block_parameter sign_parameter simple_parameters parameters block_parameters brace_parts do_parts body_behind def_name def_in_brackets def_plain def_value plain_call lambda_block empty_brackets full_brackets lambda_call called arrow_parameters plain_block arrow_value then_sign else_part branch otherwise if_value unless_value loop_body while_value until_value when_clause case_value class_header rescue_clause body_else body_ensure handlers begin_value module_body class_value module_value keyword_form newlines behind_newlines paren closed brace_block do_block block tail paren_tail keyword_value word_value integer_value text ivar_value gvar_value top_constant word_list embedded interpolated parenthesized array label_key pair_in_braces hash_value name_call constant_value super_value yield_value prim dot_part scope_part bracket post not_level power_level minus_level product_level sum_level shift_level comparison_level equal_level equality_level and_level or_level range_level ternary argument command_arguments command_part splat item more_items splat_list other_items one_value nested_value right_side jump_value jump command_level block_argument label_pair arrow_pair arguments_from arguments cargs more_pairs method_name not_expression expression alias_statement undef_statement simple modifier statement line statement_list
 c_class r = (λ x. omega (arith, d.depth_module_def (act.form_of (x.1.0)) (act.form_name (x.1.0)) (act.filled (act.tokens x.0 (x.1.1.1)) (x.1.1.0)) (act.tokens x.0 (x.1.1.1)) (act.form_place x.0 (x.1.0)), form_deep (x.1.0), filled_deep (act.tokens x.0 (x.1.1.1)) (x.1.1.0)), (refl, tt, (refl, c_header r, c_module_body)))
 
 c_module : Checks table (module_value)
-unfolding table parameter_name bracketed_names more_parameters default_value no_default behind_name named_parameter bracketed_parameter rest_parameter block_parameter sign_parameter simple_parameters parameters block_parameters brace_parts do_parts body_behind def_name def_in_brackets def_plain def_value plain_call lambda_block empty_brackets full_brackets lambda_call called arrow_parameters plain_block arrow_value then_sign else_part branch otherwise if_value unless_value loop_body while_value until_value when_clause case_value class_header rescue_clause body_else body_ensure handlers begin_value module_body class_value module_value keyword_form newlines behind_newlines paren closed brace_block do_block block tail paren_tail keyword_value word_value integer_value text ivar_value gvar_value top_constant word_list embedded interpolated parenthesized array label_key pair_in_braces hash_value name_call constant_value super_value yield_value prim dot_part scope_part bracket post not_level power_level minus_level product_level sum_level shift_level comparison_level equal_level equality_level and_level or_level range_level ternary argument command_arguments command_part splat item more_items splat_list other_items one_value nested_value right_side jump_value jump command_level block_argument label_pair arrow_pair arguments_from arguments cargs more_pairs method_name not_expression expression alias_statement undef_statement simple modifier statement line statement_list
+unfolding table placed target star_target behind_target next_target more_targets starred_set several_set parameter_name bracketed_names more_parameters default_value no_default behind_name named_parameter bracketed_parameter rest_parameter block_parameter sign_parameter simple_parameters parameters block_parameters brace_parts do_parts body_behind def_name def_in_brackets def_plain def_value plain_call lambda_block empty_brackets full_brackets lambda_call called arrow_parameters plain_block arrow_value then_sign else_part branch otherwise if_value unless_value loop_body while_value until_value when_clause case_value class_header rescue_clause body_else body_ensure handlers begin_value module_body class_value module_value keyword_form newlines behind_newlines paren closed brace_block do_block block tail paren_tail keyword_value word_value integer_value text ivar_value gvar_value top_constant word_list embedded interpolated parenthesized array label_key pair_in_braces hash_value name_call constant_value super_value yield_value prim dot_part scope_part bracket post not_level power_level minus_level product_level sum_level shift_level comparison_level equal_level equality_level and_level or_level range_level ternary argument command_arguments command_part splat item more_items splat_list other_items one_value nested_value right_side jump_value jump command_level block_argument label_pair arrow_pair arguments_from arguments cargs more_pairs method_name not_expression expression alias_statement undef_statement simple modifier statement line statement_list
 c_module = (λ x. omega (arith, d.depth_module_def form.Module (act.units (x.1.0)) (act.filled (act.tokens x.0 (x.1.1.1)) (x.1.1.0)) (act.tokens x.0 (x.1.1.1)) (act.start (x.1.0)), d.depth_module, filled_deep (act.tokens x.0 (x.1.1.1)) (x.1.1.0)), (refl, tt, (refl, tt, c_module_body)))
 
 c_forms : (r : Bool) → Checks table (keyword_form r)
-unfolding table parameter_name bracketed_names more_parameters default_value no_default behind_name named_parameter bracketed_parameter rest_parameter block_parameter sign_parameter simple_parameters parameters block_parameters brace_parts do_parts body_behind def_name def_in_brackets def_plain def_value plain_call lambda_block empty_brackets full_brackets lambda_call called arrow_parameters plain_block arrow_value then_sign else_part branch otherwise if_value unless_value loop_body while_value until_value when_clause case_value class_header rescue_clause body_else body_ensure handlers begin_value module_body class_value module_value keyword_form newlines behind_newlines paren closed brace_block do_block block tail paren_tail keyword_value word_value integer_value text ivar_value gvar_value top_constant word_list embedded interpolated parenthesized array label_key pair_in_braces hash_value name_call constant_value super_value yield_value prim dot_part scope_part bracket post not_level power_level minus_level product_level sum_level shift_level comparison_level equal_level equality_level and_level or_level range_level ternary argument command_arguments command_part splat item more_items splat_list other_items one_value nested_value right_side jump_value jump command_level block_argument label_pair arrow_pair arguments_from arguments cargs more_pairs method_name not_expression expression alias_statement undef_statement simple modifier statement line statement_list
+unfolding table placed target star_target behind_target next_target more_targets starred_set several_set parameter_name bracketed_names more_parameters default_value no_default behind_name named_parameter bracketed_parameter rest_parameter block_parameter sign_parameter simple_parameters parameters block_parameters brace_parts do_parts body_behind def_name def_in_brackets def_plain def_value plain_call lambda_block empty_brackets full_brackets lambda_call called arrow_parameters plain_block arrow_value then_sign else_part branch otherwise if_value unless_value loop_body while_value until_value when_clause case_value class_header rescue_clause body_else body_ensure handlers begin_value module_body class_value module_value keyword_form newlines behind_newlines paren closed brace_block do_block block tail paren_tail keyword_value word_value integer_value text ivar_value gvar_value top_constant word_list embedded interpolated parenthesized array label_key pair_in_braces hash_value name_call constant_value super_value yield_value prim dot_part scope_part bracket post not_level power_level minus_level product_level sum_level shift_level comparison_level equal_level equality_level and_level or_level range_level ternary argument command_arguments command_part splat item more_items splat_list other_items one_value nested_value right_side jump_value jump command_level block_argument label_pair arrow_pair arguments_from arguments cargs more_pairs method_name not_expression expression alias_statement undef_statement simple modifier statement line statement_list
 c_forms r = (refl, refl, c_if r, (refl, refl, c_unless r, (refl, refl, c_while r, (refl, refl, c_until r, (refl, refl, c_case r, (refl, refl, c_class r, (refl, refl, c_module, (refl, refl, c_def, c_begin r))))))))
 
 c_prim : (d r : Bool) → Checks table (prim r d)
-unfolding table parameter_name bracketed_names more_parameters default_value no_default behind_name named_parameter bracketed_parameter rest_parameter block_parameter sign_parameter simple_parameters parameters block_parameters brace_parts do_parts body_behind def_name def_in_brackets def_plain def_value plain_call lambda_block empty_brackets full_brackets lambda_call called arrow_parameters plain_block arrow_value then_sign else_part branch otherwise if_value unless_value loop_body while_value until_value when_clause case_value class_header rescue_clause body_else body_ensure handlers begin_value module_body class_value module_value keyword_form newlines behind_newlines paren closed brace_block do_block block tail paren_tail keyword_value word_value integer_value text ivar_value gvar_value top_constant word_list embedded interpolated parenthesized array label_key pair_in_braces hash_value name_call constant_value super_value yield_value prim dot_part scope_part bracket post not_level power_level minus_level product_level sum_level shift_level comparison_level equal_level equality_level and_level or_level range_level ternary argument command_arguments command_part splat item more_items splat_list other_items one_value nested_value right_side jump_value jump command_level block_argument label_pair arrow_pair arguments_from arguments cargs more_pairs method_name not_expression expression alias_statement undef_statement simple modifier statement line statement_list
+unfolding table placed target star_target behind_target next_target more_targets starred_set several_set parameter_name bracketed_names more_parameters default_value no_default behind_name named_parameter bracketed_parameter rest_parameter block_parameter sign_parameter simple_parameters parameters block_parameters brace_parts do_parts body_behind def_name def_in_brackets def_plain def_value plain_call lambda_block empty_brackets full_brackets lambda_call called arrow_parameters plain_block arrow_value then_sign else_part branch otherwise if_value unless_value loop_body while_value until_value when_clause case_value class_header rescue_clause body_else body_ensure handlers begin_value module_body class_value module_value keyword_form newlines behind_newlines paren closed brace_block do_block block tail paren_tail keyword_value word_value integer_value text ivar_value gvar_value top_constant word_list embedded interpolated parenthesized array label_key pair_in_braces hash_value name_call constant_value super_value yield_value prim dot_part scope_part bracket post not_level power_level minus_level product_level sum_level shift_level comparison_level equal_level equality_level and_level or_level range_level ternary argument command_arguments command_part splat item more_items splat_list other_items one_value nested_value right_side jump_value jump command_level block_argument label_pair arrow_pair arguments_from arguments cargs more_pairs method_name not_expression expression alias_statement undef_statement simple modifier statement line statement_list
 c_prim true r = (refl, refl, c_word, (refl, refl, c_integer, (refl, refl, (λ x. omega arith, c_text), (refl, refl, c_interpolated r, (refl, refl, c_words, (refl, refl, c_ivar, (refl, refl, c_gvar, (refl, refl, c_top, (refl, refl, c_name true r, (refl, refl, c_constant true r, (refl, refl, c_parenthesized r, (refl, refl, c_array r, (refl, refl, c_hash r, (refl, refl, c_yield r, (refl, refl, c_super true r, (refl, refl, c_arrow_value true r, c_forms r))))))))))))))))
 c_prim false r = (refl, refl, c_word, (refl, refl, c_integer, (refl, refl, (λ x. omega arith, c_text), (refl, refl, c_interpolated r, (refl, refl, c_words, (refl, refl, c_ivar, (refl, refl, c_gvar, (refl, refl, c_top, (refl, refl, c_name false r, (refl, refl, c_constant false r, (refl, refl, c_parenthesized r, (refl, refl, c_array r, (refl, refl, c_hash r, (refl, refl, c_yield r, (refl, refl, c_super false r, (refl, refl, c_arrow_value false r, c_forms r))))))))))))))))
 
 c_dot : (d r : Bool) → Checks table (dot_part r d)
-unfolding table parameter_name bracketed_names more_parameters default_value no_default behind_name named_parameter bracketed_parameter rest_parameter block_parameter sign_parameter simple_parameters parameters block_parameters brace_parts do_parts body_behind def_name def_in_brackets def_plain def_value plain_call lambda_block empty_brackets full_brackets lambda_call called arrow_parameters plain_block arrow_value then_sign else_part branch otherwise if_value unless_value loop_body while_value until_value when_clause case_value class_header rescue_clause body_else body_ensure handlers begin_value module_body class_value module_value keyword_form newlines behind_newlines paren closed brace_block do_block block tail paren_tail keyword_value word_value integer_value text ivar_value gvar_value top_constant word_list embedded interpolated parenthesized array label_key pair_in_braces hash_value name_call constant_value super_value yield_value prim dot_part scope_part bracket post not_level power_level minus_level product_level sum_level shift_level comparison_level equal_level equality_level and_level or_level range_level ternary argument command_arguments command_part splat item more_items splat_list other_items one_value nested_value right_side jump_value jump command_level block_argument label_pair arrow_pair arguments_from arguments cargs more_pairs method_name not_expression expression alias_statement undef_statement simple modifier statement line statement_list
+unfolding table placed target star_target behind_target next_target more_targets starred_set several_set parameter_name bracketed_names more_parameters default_value no_default behind_name named_parameter bracketed_parameter rest_parameter block_parameter sign_parameter simple_parameters parameters block_parameters brace_parts do_parts body_behind def_name def_in_brackets def_plain def_value plain_call lambda_block empty_brackets full_brackets lambda_call called arrow_parameters plain_block arrow_value then_sign else_part branch otherwise if_value unless_value loop_body while_value until_value when_clause case_value class_header rescue_clause body_else body_ensure handlers begin_value module_body class_value module_value keyword_form newlines behind_newlines paren closed brace_block do_block block tail paren_tail keyword_value word_value integer_value text ivar_value gvar_value top_constant word_list embedded interpolated parenthesized array label_key pair_in_braces hash_value name_call constant_value super_value yield_value prim dot_part scope_part bracket post not_level power_level minus_level product_level sum_level shift_level comparison_level equal_level equality_level and_level or_level range_level ternary argument command_arguments command_part splat item more_items splat_list other_items one_value nested_value right_side jump_value jump command_level block_argument label_pair arrow_pair arguments_from arguments cargs more_pairs method_name not_expression expression alias_statement undef_statement simple modifier statement line statement_list
 c_dot true r = (λ x. omega (arith, selector_deep x.0 (x.1.0) (x.1.1), flat_option (x.1.0)), (refl, tt, (refl, refl, (refl, (λ x. refl, tt), c_tail true r), (λ x. omega arith, c_paren_tail true r))))
 c_dot false r = (λ x. omega (arith, selector_deep x.0 (x.1.0) (x.1.1), flat_option (x.1.0)), (refl, tt, (refl, refl, (refl, (λ x. refl, tt), c_tail false r), (λ x. omega arith, c_paren_tail false r))))
 
 c_scope : (d r : Bool) → Checks table (scope_part r d)
-unfolding table parameter_name bracketed_names more_parameters default_value no_default behind_name named_parameter bracketed_parameter rest_parameter block_parameter sign_parameter simple_parameters parameters block_parameters brace_parts do_parts body_behind def_name def_in_brackets def_plain def_value plain_call lambda_block empty_brackets full_brackets lambda_call called arrow_parameters plain_block arrow_value then_sign else_part branch otherwise if_value unless_value loop_body while_value until_value when_clause case_value class_header rescue_clause body_else body_ensure handlers begin_value module_body class_value module_value keyword_form newlines behind_newlines paren closed brace_block do_block block tail paren_tail keyword_value word_value integer_value text ivar_value gvar_value top_constant word_list embedded interpolated parenthesized array label_key pair_in_braces hash_value name_call constant_value super_value yield_value prim dot_part scope_part bracket post not_level power_level minus_level product_level sum_level shift_level comparison_level equal_level equality_level and_level or_level range_level ternary argument command_arguments command_part splat item more_items splat_list other_items one_value nested_value right_side jump_value jump command_level block_argument label_pair arrow_pair arguments_from arguments cargs more_pairs method_name not_expression expression alias_statement undef_statement simple modifier statement line statement_list
+unfolding table placed target star_target behind_target next_target more_targets starred_set several_set parameter_name bracketed_names more_parameters default_value no_default behind_name named_parameter bracketed_parameter rest_parameter block_parameter sign_parameter simple_parameters parameters block_parameters brace_parts do_parts body_behind def_name def_in_brackets def_plain def_value plain_call lambda_block empty_brackets full_brackets lambda_call called arrow_parameters plain_block arrow_value then_sign else_part branch otherwise if_value unless_value loop_body while_value until_value when_clause case_value class_header rescue_clause body_else body_ensure handlers begin_value module_body class_value module_value keyword_form newlines behind_newlines paren closed brace_block do_block block tail paren_tail keyword_value word_value integer_value text ivar_value gvar_value top_constant word_list embedded interpolated parenthesized array label_key pair_in_braces hash_value name_call constant_value super_value yield_value prim dot_part scope_part bracket post not_level power_level minus_level product_level sum_level shift_level comparison_level equal_level equality_level and_level or_level range_level ternary argument command_arguments command_part splat item more_items splat_list other_items one_value nested_value right_side jump_value jump command_level block_argument label_pair arrow_pair arguments_from arguments cargs more_pairs method_name not_expression expression alias_statement undef_statement simple modifier statement line statement_list
 c_scope true r = (λ x. omega arith, (refl, tt, (refl, refl, (λ x. refl, tt), (λ x. omega arith, (refl, tt, c_paren_tail true r)))))
 c_scope false r = (λ x. omega arith, (refl, tt, (refl, refl, (λ x. refl, tt), (λ x. omega arith, (refl, tt, c_paren_tail false r)))))
 
 c_bracket : (r : Bool) → Checks table (bracket r)
-unfolding table parameter_name bracketed_names more_parameters default_value no_default behind_name named_parameter bracketed_parameter rest_parameter block_parameter sign_parameter simple_parameters parameters block_parameters brace_parts do_parts body_behind def_name def_in_brackets def_plain def_value plain_call lambda_block empty_brackets full_brackets lambda_call called arrow_parameters plain_block arrow_value then_sign else_part branch otherwise if_value unless_value loop_body while_value until_value when_clause case_value class_header rescue_clause body_else body_ensure handlers begin_value module_body class_value module_value keyword_form newlines behind_newlines paren closed brace_block do_block block tail paren_tail keyword_value word_value integer_value text ivar_value gvar_value top_constant word_list embedded interpolated parenthesized array label_key pair_in_braces hash_value name_call constant_value super_value yield_value prim dot_part scope_part bracket post not_level power_level minus_level product_level sum_level shift_level comparison_level equal_level equality_level and_level or_level range_level ternary argument command_arguments command_part splat item more_items splat_list other_items one_value nested_value right_side jump_value jump command_level block_argument label_pair arrow_pair arguments_from arguments cargs more_pairs method_name not_expression expression alias_statement undef_statement simple modifier statement line statement_list
+unfolding table placed target star_target behind_target next_target more_targets starred_set several_set parameter_name bracketed_names more_parameters default_value no_default behind_name named_parameter bracketed_parameter rest_parameter block_parameter sign_parameter simple_parameters parameters block_parameters brace_parts do_parts body_behind def_name def_in_brackets def_plain def_value plain_call lambda_block empty_brackets full_brackets lambda_call called arrow_parameters plain_block arrow_value then_sign else_part branch otherwise if_value unless_value loop_body while_value until_value when_clause case_value class_header rescue_clause body_else body_ensure handlers begin_value module_body class_value module_value keyword_form newlines behind_newlines paren closed brace_block do_block block tail paren_tail keyword_value word_value integer_value text ivar_value gvar_value top_constant word_list embedded interpolated parenthesized array label_key pair_in_braces hash_value name_call constant_value super_value yield_value prim dot_part scope_part bracket post not_level power_level minus_level product_level sum_level shift_level comparison_level equal_level equality_level and_level or_level range_level ternary argument command_arguments command_part splat item more_items splat_list other_items one_value nested_value right_side jump_value jump command_level block_argument label_pair arrow_pair arguments_from arguments cargs more_pairs method_name not_expression expression alias_statement undef_statement simple modifier statement line statement_list
 c_bracket r = (λ x. omega arith, (refl, tt, c_close r true))
 
 c_post : (d r : Bool) → Checks table (post r d)
-unfolding table parameter_name bracketed_names more_parameters default_value no_default behind_name named_parameter bracketed_parameter rest_parameter block_parameter sign_parameter simple_parameters parameters block_parameters brace_parts do_parts body_behind def_name def_in_brackets def_plain def_value plain_call lambda_block empty_brackets full_brackets lambda_call called arrow_parameters plain_block arrow_value then_sign else_part branch otherwise if_value unless_value loop_body while_value until_value when_clause case_value class_header rescue_clause body_else body_ensure handlers begin_value module_body class_value module_value keyword_form newlines behind_newlines paren closed brace_block do_block block tail paren_tail keyword_value word_value integer_value text ivar_value gvar_value top_constant word_list embedded interpolated parenthesized array label_key pair_in_braces hash_value name_call constant_value super_value yield_value prim dot_part scope_part bracket post not_level power_level minus_level product_level sum_level shift_level comparison_level equal_level equality_level and_level or_level range_level ternary argument command_arguments command_part splat item more_items splat_list other_items one_value nested_value right_side jump_value jump command_level block_argument label_pair arrow_pair arguments_from arguments cargs more_pairs method_name not_expression expression alias_statement undef_statement simple modifier statement line statement_list
+unfolding table placed target star_target behind_target next_target more_targets starred_set several_set parameter_name bracketed_names more_parameters default_value no_default behind_name named_parameter bracketed_parameter rest_parameter block_parameter sign_parameter simple_parameters parameters block_parameters brace_parts do_parts body_behind def_name def_in_brackets def_plain def_value plain_call lambda_block empty_brackets full_brackets lambda_call called arrow_parameters plain_block arrow_value then_sign else_part branch otherwise if_value unless_value loop_body while_value until_value when_clause case_value class_header rescue_clause body_else body_ensure handlers begin_value module_body class_value module_value keyword_form newlines behind_newlines paren closed brace_block do_block block tail paren_tail keyword_value word_value integer_value text ivar_value gvar_value top_constant word_list embedded interpolated parenthesized array label_key pair_in_braces hash_value name_call constant_value super_value yield_value prim dot_part scope_part bracket post not_level power_level minus_level product_level sum_level shift_level comparison_level equal_level equality_level and_level or_level range_level ternary argument command_arguments command_part splat item more_items splat_list other_items one_value nested_value right_side jump_value jump command_level block_argument label_pair arrow_pair arguments_from arguments cargs more_pairs method_name not_expression expression alias_statement undef_statement simple modifier statement line statement_list
 c_post true r = (refl, refl, refl, refl, λ l x. omega (arith, part_deep l.0 x.1 (x.0.0) (x.0.1) (act.to_end (l.0).span (act.end_of (act.span_of (x.0.0)) (x.0.1.0) (x.0.1.1)))), c_prim true r, (refl, refl, c_dot true r, (refl, refl, c_scope true r, c_bracket r)))
 c_post false r = (refl, refl, refl, refl, λ l x. omega (arith, part_deep l.0 x.1 (x.0.0) (x.0.1) (act.to_end (l.0).span (act.end_of (act.span_of (x.0.0)) (x.0.1.0) (x.0.1.1)))), c_prim false r, (refl, refl, c_dot false r, (refl, refl, c_scope false r, c_bracket r)))
 
 pub c_not : (d r : Bool) → Checks table (not_level d r)
-unfolding table parameter_name bracketed_names more_parameters default_value no_default behind_name named_parameter bracketed_parameter rest_parameter block_parameter sign_parameter simple_parameters parameters block_parameters brace_parts do_parts body_behind def_name def_in_brackets def_plain def_value plain_call lambda_block empty_brackets full_brackets lambda_call called arrow_parameters plain_block arrow_value then_sign else_part branch otherwise if_value unless_value loop_body while_value until_value when_clause case_value class_header rescue_clause body_else body_ensure handlers begin_value module_body class_value module_value keyword_form newlines behind_newlines paren closed brace_block do_block block tail paren_tail keyword_value word_value integer_value text ivar_value gvar_value top_constant word_list embedded interpolated parenthesized array label_key pair_in_braces hash_value name_call constant_value super_value yield_value prim dot_part scope_part bracket post not_level power_level minus_level product_level sum_level shift_level comparison_level equal_level equality_level and_level or_level range_level ternary argument command_arguments command_part splat item more_items splat_list other_items one_value nested_value right_side jump_value jump command_level block_argument label_pair arrow_pair arguments_from arguments cargs more_pairs method_name not_expression expression alias_statement undef_statement simple modifier statement line statement_list
+unfolding table placed target star_target behind_target next_target more_targets starred_set several_set parameter_name bracketed_names more_parameters default_value no_default behind_name named_parameter bracketed_parameter rest_parameter block_parameter sign_parameter simple_parameters parameters block_parameters brace_parts do_parts body_behind def_name def_in_brackets def_plain def_value plain_call lambda_block empty_brackets full_brackets lambda_call called arrow_parameters plain_block arrow_value then_sign else_part branch otherwise if_value unless_value loop_body while_value until_value when_clause case_value class_header rescue_clause body_else body_ensure handlers begin_value module_body class_value module_value keyword_form newlines behind_newlines paren closed brace_block do_block block tail paren_tail keyword_value word_value integer_value text ivar_value gvar_value top_constant word_list embedded interpolated parenthesized array label_key pair_in_braces hash_value name_call constant_value super_value yield_value prim dot_part scope_part bracket post not_level power_level minus_level product_level sum_level shift_level comparison_level equal_level equality_level and_level or_level range_level ternary argument command_arguments command_part splat item more_items splat_list other_items one_value nested_value right_side jump_value jump command_level block_argument label_pair arrow_pair arguments_from arguments cargs more_pairs method_name not_expression expression alias_statement undef_statement simple modifier statement line statement_list
 c_not true r = (refl, refl, (λ x. omega (arith, d.depth_not x.1 (act.from_token x.0 x.1) (act.start x.0)), (refl, tt, tt)), c_post true r)
 c_not false r = (refl, refl, (λ x. omega (arith, d.depth_not x.1 (act.from_token x.0 x.1) (act.start x.0)), (refl, tt, tt)), c_post false r)
 
 pub c_power : (d r : Bool) → Checks table (power_level d r)
-unfolding table parameter_name bracketed_names more_parameters default_value no_default behind_name named_parameter bracketed_parameter rest_parameter block_parameter sign_parameter simple_parameters parameters block_parameters brace_parts do_parts body_behind def_name def_in_brackets def_plain def_value plain_call lambda_block empty_brackets full_brackets lambda_call called arrow_parameters plain_block arrow_value then_sign else_part branch otherwise if_value unless_value loop_body while_value until_value when_clause case_value class_header rescue_clause body_else body_ensure handlers begin_value module_body class_value module_value keyword_form newlines behind_newlines paren closed brace_block do_block block tail paren_tail keyword_value word_value integer_value text ivar_value gvar_value top_constant word_list embedded interpolated parenthesized array label_key pair_in_braces hash_value name_call constant_value super_value yield_value prim dot_part scope_part bracket post not_level power_level minus_level product_level sum_level shift_level comparison_level equal_level equality_level and_level or_level range_level ternary argument command_arguments command_part splat item more_items splat_list other_items one_value nested_value right_side jump_value jump command_level block_argument label_pair arrow_pair arguments_from arguments cargs more_pairs method_name not_expression expression alias_statement undef_statement simple modifier statement line statement_list
+unfolding table placed target star_target behind_target next_target more_targets starred_set several_set parameter_name bracketed_names more_parameters default_value no_default behind_name named_parameter bracketed_parameter rest_parameter block_parameter sign_parameter simple_parameters parameters block_parameters brace_parts do_parts body_behind def_name def_in_brackets def_plain def_value plain_call lambda_block empty_brackets full_brackets lambda_call called arrow_parameters plain_block arrow_value then_sign else_part branch otherwise if_value unless_value loop_body while_value until_value when_clause case_value class_header rescue_clause body_else body_ensure handlers begin_value module_body class_value module_value keyword_form newlines behind_newlines paren closed brace_block do_block block tail paren_tail keyword_value word_value integer_value text ivar_value gvar_value top_constant word_list embedded interpolated parenthesized array label_key pair_in_braces hash_value name_call constant_value super_value yield_value prim dot_part scope_part bracket post not_level power_level minus_level product_level sum_level shift_level comparison_level equal_level equality_level and_level or_level range_level ternary argument command_arguments command_part splat item more_items splat_list other_items one_value nested_value right_side jump_value jump command_level block_argument label_pair arrow_pair arguments_from arguments cargs more_pairs method_name not_expression expression alias_statement undef_statement simple modifier statement line statement_list
 c_power true r = (inl refl, refl, refl, λ l x k. omega (arith, binary_deep l x), c_not true r, (refl, tt, tt))
 c_power false r = (inl refl, refl, refl, λ l x k. omega (arith, binary_deep l x), c_not false r, (refl, tt, tt))
 
 pub c_minus : (d r : Bool) → Checks table (minus_level d r)
-unfolding table parameter_name bracketed_names more_parameters default_value no_default behind_name named_parameter bracketed_parameter rest_parameter block_parameter sign_parameter simple_parameters parameters block_parameters brace_parts do_parts body_behind def_name def_in_brackets def_plain def_value plain_call lambda_block empty_brackets full_brackets lambda_call called arrow_parameters plain_block arrow_value then_sign else_part branch otherwise if_value unless_value loop_body while_value until_value when_clause case_value class_header rescue_clause body_else body_ensure handlers begin_value module_body class_value module_value keyword_form newlines behind_newlines paren closed brace_block do_block block tail paren_tail keyword_value word_value integer_value text ivar_value gvar_value top_constant word_list embedded interpolated parenthesized array label_key pair_in_braces hash_value name_call constant_value super_value yield_value prim dot_part scope_part bracket post not_level power_level minus_level product_level sum_level shift_level comparison_level equal_level equality_level and_level or_level range_level ternary argument command_arguments command_part splat item more_items splat_list other_items one_value nested_value right_side jump_value jump command_level block_argument label_pair arrow_pair arguments_from arguments cargs more_pairs method_name not_expression expression alias_statement undef_statement simple modifier statement line statement_list
+unfolding table placed target star_target behind_target next_target more_targets starred_set several_set parameter_name bracketed_names more_parameters default_value no_default behind_name named_parameter bracketed_parameter rest_parameter block_parameter sign_parameter simple_parameters parameters block_parameters brace_parts do_parts body_behind def_name def_in_brackets def_plain def_value plain_call lambda_block empty_brackets full_brackets lambda_call called arrow_parameters plain_block arrow_value then_sign else_part branch otherwise if_value unless_value loop_body while_value until_value when_clause case_value class_header rescue_clause body_else body_ensure handlers begin_value module_body class_value module_value keyword_form newlines behind_newlines paren closed brace_block do_block block tail paren_tail keyword_value word_value integer_value text ivar_value gvar_value top_constant word_list embedded interpolated parenthesized array label_key pair_in_braces hash_value name_call constant_value super_value yield_value prim dot_part scope_part bracket post not_level power_level minus_level product_level sum_level shift_level comparison_level equal_level equality_level and_level or_level range_level ternary argument command_arguments command_part splat item more_items splat_list other_items one_value nested_value right_side jump_value jump command_level block_argument label_pair arrow_pair arguments_from arguments cargs more_pairs method_name not_expression expression alias_statement undef_statement simple modifier statement line statement_list
 c_minus true r = (refl, refl, (λ x. omega (arith, negated_deep x.0 x.1), (refl, tt, tt)), c_power true r)
 c_minus false r = (refl, refl, (λ x. omega (arith, negated_deep x.0 x.1), (refl, tt, tt)), c_power false r)
 
 pub c_product : (d r : Bool) → Checks table (product_level d r)
-unfolding table parameter_name bracketed_names more_parameters default_value no_default behind_name named_parameter bracketed_parameter rest_parameter block_parameter sign_parameter simple_parameters parameters block_parameters brace_parts do_parts body_behind def_name def_in_brackets def_plain def_value plain_call lambda_block empty_brackets full_brackets lambda_call called arrow_parameters plain_block arrow_value then_sign else_part branch otherwise if_value unless_value loop_body while_value until_value when_clause case_value class_header rescue_clause body_else body_ensure handlers begin_value module_body class_value module_value keyword_form newlines behind_newlines paren closed brace_block do_block block tail paren_tail keyword_value word_value integer_value text ivar_value gvar_value top_constant word_list embedded interpolated parenthesized array label_key pair_in_braces hash_value name_call constant_value super_value yield_value prim dot_part scope_part bracket post not_level power_level minus_level product_level sum_level shift_level comparison_level equal_level equality_level and_level or_level range_level ternary argument command_arguments command_part splat item more_items splat_list other_items one_value nested_value right_side jump_value jump command_level block_argument label_pair arrow_pair arguments_from arguments cargs more_pairs method_name not_expression expression alias_statement undef_statement simple modifier statement line statement_list
+unfolding table placed target star_target behind_target next_target more_targets starred_set several_set parameter_name bracketed_names more_parameters default_value no_default behind_name named_parameter bracketed_parameter rest_parameter block_parameter sign_parameter simple_parameters parameters block_parameters brace_parts do_parts body_behind def_name def_in_brackets def_plain def_value plain_call lambda_block empty_brackets full_brackets lambda_call called arrow_parameters plain_block arrow_value then_sign else_part branch otherwise if_value unless_value loop_body while_value until_value when_clause case_value class_header rescue_clause body_else body_ensure handlers begin_value module_body class_value module_value keyword_form newlines behind_newlines paren closed brace_block do_block block tail paren_tail keyword_value word_value integer_value text ivar_value gvar_value top_constant word_list embedded interpolated parenthesized array label_key pair_in_braces hash_value name_call constant_value super_value yield_value prim dot_part scope_part bracket post not_level power_level minus_level product_level sum_level shift_level comparison_level equal_level equality_level and_level or_level range_level ternary argument command_arguments command_part splat item more_items splat_list other_items one_value nested_value right_side jump_value jump command_level block_argument label_pair arrow_pair arguments_from arguments cargs more_pairs method_name not_expression expression alias_statement undef_statement simple modifier statement line statement_list
 c_product true r = (refl, refl, refl, refl, λ l x. omega (arith, binary_deep l x), c_minus true r, (refl, tt, tt))
 c_product false r = (refl, refl, refl, refl, λ l x. omega (arith, binary_deep l x), c_minus false r, (refl, tt, tt))
 
 pub c_sum : (d r : Bool) → Checks table (sum_level d r)
-unfolding table parameter_name bracketed_names more_parameters default_value no_default behind_name named_parameter bracketed_parameter rest_parameter block_parameter sign_parameter simple_parameters parameters block_parameters brace_parts do_parts body_behind def_name def_in_brackets def_plain def_value plain_call lambda_block empty_brackets full_brackets lambda_call called arrow_parameters plain_block arrow_value then_sign else_part branch otherwise if_value unless_value loop_body while_value until_value when_clause case_value class_header rescue_clause body_else body_ensure handlers begin_value module_body class_value module_value keyword_form newlines behind_newlines paren closed brace_block do_block block tail paren_tail keyword_value word_value integer_value text ivar_value gvar_value top_constant word_list embedded interpolated parenthesized array label_key pair_in_braces hash_value name_call constant_value super_value yield_value prim dot_part scope_part bracket post not_level power_level minus_level product_level sum_level shift_level comparison_level equal_level equality_level and_level or_level range_level ternary argument command_arguments command_part splat item more_items splat_list other_items one_value nested_value right_side jump_value jump command_level block_argument label_pair arrow_pair arguments_from arguments cargs more_pairs method_name not_expression expression alias_statement undef_statement simple modifier statement line statement_list
+unfolding table placed target star_target behind_target next_target more_targets starred_set several_set parameter_name bracketed_names more_parameters default_value no_default behind_name named_parameter bracketed_parameter rest_parameter block_parameter sign_parameter simple_parameters parameters block_parameters brace_parts do_parts body_behind def_name def_in_brackets def_plain def_value plain_call lambda_block empty_brackets full_brackets lambda_call called arrow_parameters plain_block arrow_value then_sign else_part branch otherwise if_value unless_value loop_body while_value until_value when_clause case_value class_header rescue_clause body_else body_ensure handlers begin_value module_body class_value module_value keyword_form newlines behind_newlines paren closed brace_block do_block block tail paren_tail keyword_value word_value integer_value text ivar_value gvar_value top_constant word_list embedded interpolated parenthesized array label_key pair_in_braces hash_value name_call constant_value super_value yield_value prim dot_part scope_part bracket post not_level power_level minus_level product_level sum_level shift_level comparison_level equal_level equality_level and_level or_level range_level ternary argument command_arguments command_part splat item more_items splat_list other_items one_value nested_value right_side jump_value jump command_level block_argument label_pair arrow_pair arguments_from arguments cargs more_pairs method_name not_expression expression alias_statement undef_statement simple modifier statement line statement_list
 c_sum true r = (refl, refl, refl, refl, λ l x. omega (arith, binary_deep l x), c_product true r, (refl, tt, tt))
 c_sum false r = (refl, refl, refl, refl, λ l x. omega (arith, binary_deep l x), c_product false r, (refl, tt, tt))
 
 pub c_shift : (d r : Bool) → Checks table (shift_level d r)
-unfolding table parameter_name bracketed_names more_parameters default_value no_default behind_name named_parameter bracketed_parameter rest_parameter block_parameter sign_parameter simple_parameters parameters block_parameters brace_parts do_parts body_behind def_name def_in_brackets def_plain def_value plain_call lambda_block empty_brackets full_brackets lambda_call called arrow_parameters plain_block arrow_value then_sign else_part branch otherwise if_value unless_value loop_body while_value until_value when_clause case_value class_header rescue_clause body_else body_ensure handlers begin_value module_body class_value module_value keyword_form newlines behind_newlines paren closed brace_block do_block block tail paren_tail keyword_value word_value integer_value text ivar_value gvar_value top_constant word_list embedded interpolated parenthesized array label_key pair_in_braces hash_value name_call constant_value super_value yield_value prim dot_part scope_part bracket post not_level power_level minus_level product_level sum_level shift_level comparison_level equal_level equality_level and_level or_level range_level ternary argument command_arguments command_part splat item more_items splat_list other_items one_value nested_value right_side jump_value jump command_level block_argument label_pair arrow_pair arguments_from arguments cargs more_pairs method_name not_expression expression alias_statement undef_statement simple modifier statement line statement_list
+unfolding table placed target star_target behind_target next_target more_targets starred_set several_set parameter_name bracketed_names more_parameters default_value no_default behind_name named_parameter bracketed_parameter rest_parameter block_parameter sign_parameter simple_parameters parameters block_parameters brace_parts do_parts body_behind def_name def_in_brackets def_plain def_value plain_call lambda_block empty_brackets full_brackets lambda_call called arrow_parameters plain_block arrow_value then_sign else_part branch otherwise if_value unless_value loop_body while_value until_value when_clause case_value class_header rescue_clause body_else body_ensure handlers begin_value module_body class_value module_value keyword_form newlines behind_newlines paren closed brace_block do_block block tail paren_tail keyword_value word_value integer_value text ivar_value gvar_value top_constant word_list embedded interpolated parenthesized array label_key pair_in_braces hash_value name_call constant_value super_value yield_value prim dot_part scope_part bracket post not_level power_level minus_level product_level sum_level shift_level comparison_level equal_level equality_level and_level or_level range_level ternary argument command_arguments command_part splat item more_items splat_list other_items one_value nested_value right_side jump_value jump command_level block_argument label_pair arrow_pair arguments_from arguments cargs more_pairs method_name not_expression expression alias_statement undef_statement simple modifier statement line statement_list
 c_shift true r = (refl, refl, refl, refl, λ l x. omega (arith, binary_deep l x), c_sum true r, (refl, tt, tt))
 c_shift false r = (refl, refl, refl, refl, λ l x. omega (arith, binary_deep l x), c_sum false r, (refl, tt, tt))
 
 pub c_comparison : (d r : Bool) → Checks table (comparison_level d r)
-unfolding table parameter_name bracketed_names more_parameters default_value no_default behind_name named_parameter bracketed_parameter rest_parameter block_parameter sign_parameter simple_parameters parameters block_parameters brace_parts do_parts body_behind def_name def_in_brackets def_plain def_value plain_call lambda_block empty_brackets full_brackets lambda_call called arrow_parameters plain_block arrow_value then_sign else_part branch otherwise if_value unless_value loop_body while_value until_value when_clause case_value class_header rescue_clause body_else body_ensure handlers begin_value module_body class_value module_value keyword_form newlines behind_newlines paren closed brace_block do_block block tail paren_tail keyword_value word_value integer_value text ivar_value gvar_value top_constant word_list embedded interpolated parenthesized array label_key pair_in_braces hash_value name_call constant_value super_value yield_value prim dot_part scope_part bracket post not_level power_level minus_level product_level sum_level shift_level comparison_level equal_level equality_level and_level or_level range_level ternary argument command_arguments command_part splat item more_items splat_list other_items one_value nested_value right_side jump_value jump command_level block_argument label_pair arrow_pair arguments_from arguments cargs more_pairs method_name not_expression expression alias_statement undef_statement simple modifier statement line statement_list
+unfolding table placed target star_target behind_target next_target more_targets starred_set several_set parameter_name bracketed_names more_parameters default_value no_default behind_name named_parameter bracketed_parameter rest_parameter block_parameter sign_parameter simple_parameters parameters block_parameters brace_parts do_parts body_behind def_name def_in_brackets def_plain def_value plain_call lambda_block empty_brackets full_brackets lambda_call called arrow_parameters plain_block arrow_value then_sign else_part branch otherwise if_value unless_value loop_body while_value until_value when_clause case_value class_header rescue_clause body_else body_ensure handlers begin_value module_body class_value module_value keyword_form newlines behind_newlines paren closed brace_block do_block block tail paren_tail keyword_value word_value integer_value text ivar_value gvar_value top_constant word_list embedded interpolated parenthesized array label_key pair_in_braces hash_value name_call constant_value super_value yield_value prim dot_part scope_part bracket post not_level power_level minus_level product_level sum_level shift_level comparison_level equal_level equality_level and_level or_level range_level ternary argument command_arguments command_part splat item more_items splat_list other_items one_value nested_value right_side jump_value jump command_level block_argument label_pair arrow_pair arguments_from arguments cargs more_pairs method_name not_expression expression alias_statement undef_statement simple modifier statement line statement_list
 c_comparison true r = (refl, refl, refl, refl, λ l x. omega (arith, binary_deep l x), c_shift true r, (refl, tt, tt))
 c_comparison false r = (refl, refl, refl, refl, λ l x. omega (arith, binary_deep l x), c_shift false r, (refl, tt, tt))
 
 c_equal : (d r : Bool) → Checks table (equal_level d r)
-unfolding table parameter_name bracketed_names more_parameters default_value no_default behind_name named_parameter bracketed_parameter rest_parameter block_parameter sign_parameter simple_parameters parameters block_parameters brace_parts do_parts body_behind def_name def_in_brackets def_plain def_value plain_call lambda_block empty_brackets full_brackets lambda_call called arrow_parameters plain_block arrow_value then_sign else_part branch otherwise if_value unless_value loop_body while_value until_value when_clause case_value class_header rescue_clause body_else body_ensure handlers begin_value module_body class_value module_value keyword_form newlines behind_newlines paren closed brace_block do_block block tail paren_tail keyword_value word_value integer_value text ivar_value gvar_value top_constant word_list embedded interpolated parenthesized array label_key pair_in_braces hash_value name_call constant_value super_value yield_value prim dot_part scope_part bracket post not_level power_level minus_level product_level sum_level shift_level comparison_level equal_level equality_level and_level or_level range_level ternary argument command_arguments command_part splat item more_items splat_list other_items one_value nested_value right_side jump_value jump command_level block_argument label_pair arrow_pair arguments_from arguments cargs more_pairs method_name not_expression expression alias_statement undef_statement simple modifier statement line statement_list
+unfolding table placed target star_target behind_target next_target more_targets starred_set several_set parameter_name bracketed_names more_parameters default_value no_default behind_name named_parameter bracketed_parameter rest_parameter block_parameter sign_parameter simple_parameters parameters block_parameters brace_parts do_parts body_behind def_name def_in_brackets def_plain def_value plain_call lambda_block empty_brackets full_brackets lambda_call called arrow_parameters plain_block arrow_value then_sign else_part branch otherwise if_value unless_value loop_body while_value until_value when_clause case_value class_header rescue_clause body_else body_ensure handlers begin_value module_body class_value module_value keyword_form newlines behind_newlines paren closed brace_block do_block block tail paren_tail keyword_value word_value integer_value text ivar_value gvar_value top_constant word_list embedded interpolated parenthesized array label_key pair_in_braces hash_value name_call constant_value super_value yield_value prim dot_part scope_part bracket post not_level power_level minus_level product_level sum_level shift_level comparison_level equal_level equality_level and_level or_level range_level ternary argument command_arguments command_part splat item more_items splat_list other_items one_value nested_value right_side jump_value jump command_level block_argument label_pair arrow_pair arguments_from arguments cargs more_pairs method_name not_expression expression alias_statement undef_statement simple modifier statement line statement_list
 c_equal true r = (inl refl, refl, refl, λ l x k. omega (arith, binary_deep l x), c_comparison true r, (refl, tt, tt))
 c_equal false r = (inl refl, refl, refl, λ l x k. omega (arith, binary_deep l x), c_comparison false r, (refl, tt, tt))
 
 pub c_equality : (d r : Bool) → Checks table (equality_level d r)
-unfolding table parameter_name bracketed_names more_parameters default_value no_default behind_name named_parameter bracketed_parameter rest_parameter block_parameter sign_parameter simple_parameters parameters block_parameters brace_parts do_parts body_behind def_name def_in_brackets def_plain def_value plain_call lambda_block empty_brackets full_brackets lambda_call called arrow_parameters plain_block arrow_value then_sign else_part branch otherwise if_value unless_value loop_body while_value until_value when_clause case_value class_header rescue_clause body_else body_ensure handlers begin_value module_body class_value module_value keyword_form newlines behind_newlines paren closed brace_block do_block block tail paren_tail keyword_value word_value integer_value text ivar_value gvar_value top_constant word_list embedded interpolated parenthesized array label_key pair_in_braces hash_value name_call constant_value super_value yield_value prim dot_part scope_part bracket post not_level power_level minus_level product_level sum_level shift_level comparison_level equal_level equality_level and_level or_level range_level ternary argument command_arguments command_part splat item more_items splat_list other_items one_value nested_value right_side jump_value jump command_level block_argument label_pair arrow_pair arguments_from arguments cargs more_pairs method_name not_expression expression alias_statement undef_statement simple modifier statement line statement_list
+unfolding table placed target star_target behind_target next_target more_targets starred_set several_set parameter_name bracketed_names more_parameters default_value no_default behind_name named_parameter bracketed_parameter rest_parameter block_parameter sign_parameter simple_parameters parameters block_parameters brace_parts do_parts body_behind def_name def_in_brackets def_plain def_value plain_call lambda_block empty_brackets full_brackets lambda_call called arrow_parameters plain_block arrow_value then_sign else_part branch otherwise if_value unless_value loop_body while_value until_value when_clause case_value class_header rescue_clause body_else body_ensure handlers begin_value module_body class_value module_value keyword_form newlines behind_newlines paren closed brace_block do_block block tail paren_tail keyword_value word_value integer_value text ivar_value gvar_value top_constant word_list embedded interpolated parenthesized array label_key pair_in_braces hash_value name_call constant_value super_value yield_value prim dot_part scope_part bracket post not_level power_level minus_level product_level sum_level shift_level comparison_level equal_level equality_level and_level or_level range_level ternary argument command_arguments command_part splat item more_items splat_list other_items one_value nested_value right_side jump_value jump command_level block_argument label_pair arrow_pair arguments_from arguments cargs more_pairs method_name not_expression expression alias_statement undef_statement simple modifier statement line statement_list
 c_equality true r = (inl refl, refl, refl, λ l x k. omega (arith, different_deep l x), c_equal true r, (refl, tt, tt))
 c_equality false r = (inl refl, refl, refl, λ l x k. omega (arith, different_deep l x), c_equal false r, (refl, tt, tt))
 
 pub c_and : (d r : Bool) → Checks table (and_level d r)
-unfolding table parameter_name bracketed_names more_parameters default_value no_default behind_name named_parameter bracketed_parameter rest_parameter block_parameter sign_parameter simple_parameters parameters block_parameters brace_parts do_parts body_behind def_name def_in_brackets def_plain def_value plain_call lambda_block empty_brackets full_brackets lambda_call called arrow_parameters plain_block arrow_value then_sign else_part branch otherwise if_value unless_value loop_body while_value until_value when_clause case_value class_header rescue_clause body_else body_ensure handlers begin_value module_body class_value module_value keyword_form newlines behind_newlines paren closed brace_block do_block block tail paren_tail keyword_value word_value integer_value text ivar_value gvar_value top_constant word_list embedded interpolated parenthesized array label_key pair_in_braces hash_value name_call constant_value super_value yield_value prim dot_part scope_part bracket post not_level power_level minus_level product_level sum_level shift_level comparison_level equal_level equality_level and_level or_level range_level ternary argument command_arguments command_part splat item more_items splat_list other_items one_value nested_value right_side jump_value jump command_level block_argument label_pair arrow_pair arguments_from arguments cargs more_pairs method_name not_expression expression alias_statement undef_statement simple modifier statement line statement_list
+unfolding table placed target star_target behind_target next_target more_targets starred_set several_set parameter_name bracketed_names more_parameters default_value no_default behind_name named_parameter bracketed_parameter rest_parameter block_parameter sign_parameter simple_parameters parameters block_parameters brace_parts do_parts body_behind def_name def_in_brackets def_plain def_value plain_call lambda_block empty_brackets full_brackets lambda_call called arrow_parameters plain_block arrow_value then_sign else_part branch otherwise if_value unless_value loop_body while_value until_value when_clause case_value class_header rescue_clause body_else body_ensure handlers begin_value module_body class_value module_value keyword_form newlines behind_newlines paren closed brace_block do_block block tail paren_tail keyword_value word_value integer_value text ivar_value gvar_value top_constant word_list embedded interpolated parenthesized array label_key pair_in_braces hash_value name_call constant_value super_value yield_value prim dot_part scope_part bracket post not_level power_level minus_level product_level sum_level shift_level comparison_level equal_level equality_level and_level or_level range_level ternary argument command_arguments command_part splat item more_items splat_list other_items one_value nested_value right_side jump_value jump command_level block_argument label_pair arrow_pair arguments_from arguments cargs more_pairs method_name not_expression expression alias_statement undef_statement simple modifier statement line statement_list
 c_and true r = (refl, refl, refl, refl, λ l x. omega (arith, d.depth_and l.0 x.1 (act.nodes l.0 x.1) (act.start x.0)), c_equality true r, (refl, tt, tt))
 c_and false r = (refl, refl, refl, refl, λ l x. omega (arith, d.depth_and l.0 x.1 (act.nodes l.0 x.1) (act.start x.0)), c_equality false r, (refl, tt, tt))
 
 pub c_or : (d r : Bool) → Checks table (or_level d r)
-unfolding table parameter_name bracketed_names more_parameters default_value no_default behind_name named_parameter bracketed_parameter rest_parameter block_parameter sign_parameter simple_parameters parameters block_parameters brace_parts do_parts body_behind def_name def_in_brackets def_plain def_value plain_call lambda_block empty_brackets full_brackets lambda_call called arrow_parameters plain_block arrow_value then_sign else_part branch otherwise if_value unless_value loop_body while_value until_value when_clause case_value class_header rescue_clause body_else body_ensure handlers begin_value module_body class_value module_value keyword_form newlines behind_newlines paren closed brace_block do_block block tail paren_tail keyword_value word_value integer_value text ivar_value gvar_value top_constant word_list embedded interpolated parenthesized array label_key pair_in_braces hash_value name_call constant_value super_value yield_value prim dot_part scope_part bracket post not_level power_level minus_level product_level sum_level shift_level comparison_level equal_level equality_level and_level or_level range_level ternary argument command_arguments command_part splat item more_items splat_list other_items one_value nested_value right_side jump_value jump command_level block_argument label_pair arrow_pair arguments_from arguments cargs more_pairs method_name not_expression expression alias_statement undef_statement simple modifier statement line statement_list
+unfolding table placed target star_target behind_target next_target more_targets starred_set several_set parameter_name bracketed_names more_parameters default_value no_default behind_name named_parameter bracketed_parameter rest_parameter block_parameter sign_parameter simple_parameters parameters block_parameters brace_parts do_parts body_behind def_name def_in_brackets def_plain def_value plain_call lambda_block empty_brackets full_brackets lambda_call called arrow_parameters plain_block arrow_value then_sign else_part branch otherwise if_value unless_value loop_body while_value until_value when_clause case_value class_header rescue_clause body_else body_ensure handlers begin_value module_body class_value module_value keyword_form newlines behind_newlines paren closed brace_block do_block block tail paren_tail keyword_value word_value integer_value text ivar_value gvar_value top_constant word_list embedded interpolated parenthesized array label_key pair_in_braces hash_value name_call constant_value super_value yield_value prim dot_part scope_part bracket post not_level power_level minus_level product_level sum_level shift_level comparison_level equal_level equality_level and_level or_level range_level ternary argument command_arguments command_part splat item more_items splat_list other_items one_value nested_value right_side jump_value jump command_level block_argument label_pair arrow_pair arguments_from arguments cargs more_pairs method_name not_expression expression alias_statement undef_statement simple modifier statement line statement_list
 c_or true r = (refl, refl, refl, refl, λ l x. omega (arith, d.depth_or l.0 x.1 (act.nodes l.0 x.1) (act.start x.0)), c_and true r, (refl, tt, tt))
 c_or false r = (refl, refl, refl, refl, λ l x. omega (arith, d.depth_or l.0 x.1 (act.nodes l.0 x.1) (act.start x.0)), c_and false r, (refl, tt, tt))
 
 c_range : (d r : Bool) → Checks table (range_level d r)
-unfolding table parameter_name bracketed_names more_parameters default_value no_default behind_name named_parameter bracketed_parameter rest_parameter block_parameter sign_parameter simple_parameters parameters block_parameters brace_parts do_parts body_behind def_name def_in_brackets def_plain def_value plain_call lambda_block empty_brackets full_brackets lambda_call called arrow_parameters plain_block arrow_value then_sign else_part branch otherwise if_value unless_value loop_body while_value until_value when_clause case_value class_header rescue_clause body_else body_ensure handlers begin_value module_body class_value module_value keyword_form newlines behind_newlines paren closed brace_block do_block block tail paren_tail keyword_value word_value integer_value text ivar_value gvar_value top_constant word_list embedded interpolated parenthesized array label_key pair_in_braces hash_value name_call constant_value super_value yield_value prim dot_part scope_part bracket post not_level power_level minus_level product_level sum_level shift_level comparison_level equal_level equality_level and_level or_level range_level ternary argument command_arguments command_part splat item more_items splat_list other_items one_value nested_value right_side jump_value jump command_level block_argument label_pair arrow_pair arguments_from arguments cargs more_pairs method_name not_expression expression alias_statement undef_statement simple modifier statement line statement_list
+unfolding table placed target star_target behind_target next_target more_targets starred_set several_set parameter_name bracketed_names more_parameters default_value no_default behind_name named_parameter bracketed_parameter rest_parameter block_parameter sign_parameter simple_parameters parameters block_parameters brace_parts do_parts body_behind def_name def_in_brackets def_plain def_value plain_call lambda_block empty_brackets full_brackets lambda_call called arrow_parameters plain_block arrow_value then_sign else_part branch otherwise if_value unless_value loop_body while_value until_value when_clause case_value class_header rescue_clause body_else body_ensure handlers begin_value module_body class_value module_value keyword_form newlines behind_newlines paren closed brace_block do_block block tail paren_tail keyword_value word_value integer_value text ivar_value gvar_value top_constant word_list embedded interpolated parenthesized array label_key pair_in_braces hash_value name_call constant_value super_value yield_value prim dot_part scope_part bracket post not_level power_level minus_level product_level sum_level shift_level comparison_level equal_level equality_level and_level or_level range_level ternary argument command_arguments command_part splat item more_items splat_list other_items one_value nested_value right_side jump_value jump command_level block_argument label_pair arrow_pair arguments_from arguments cargs more_pairs method_name not_expression expression alias_statement undef_statement simple modifier statement line statement_list
 c_range true r = (inl refl, refl, refl, λ l x k. omega (arith, d.depth_range_lit l.0 x.1 (act.without_end x.0) (act.nodes l.0 x.1) (act.start x.0)), c_or true r, (refl, tt, tt))
 c_range false r = (inl refl, refl, refl, λ l x k. omega (arith, d.depth_range_lit l.0 x.1 (act.without_end x.0) (act.nodes l.0 x.1) (act.start x.0)), c_or false r, (refl, tt, tt))
 
 pub c_ternary : (d r : Bool) → Checks table (ternary d r)
-unfolding table parameter_name bracketed_names more_parameters default_value no_default behind_name named_parameter bracketed_parameter rest_parameter block_parameter sign_parameter simple_parameters parameters block_parameters brace_parts do_parts body_behind def_name def_in_brackets def_plain def_value plain_call lambda_block empty_brackets full_brackets lambda_call called arrow_parameters plain_block arrow_value then_sign else_part branch otherwise if_value unless_value loop_body while_value until_value when_clause case_value class_header rescue_clause body_else body_ensure handlers begin_value module_body class_value module_value keyword_form newlines behind_newlines paren closed brace_block do_block block tail paren_tail keyword_value word_value integer_value text ivar_value gvar_value top_constant word_list embedded interpolated parenthesized array label_key pair_in_braces hash_value name_call constant_value super_value yield_value prim dot_part scope_part bracket post not_level power_level minus_level product_level sum_level shift_level comparison_level equal_level equality_level and_level or_level range_level ternary argument command_arguments command_part splat item more_items splat_list other_items one_value nested_value right_side jump_value jump command_level block_argument label_pair arrow_pair arguments_from arguments cargs more_pairs method_name not_expression expression alias_statement undef_statement simple modifier statement line statement_list
+unfolding table placed target star_target behind_target next_target more_targets starred_set several_set parameter_name bracketed_names more_parameters default_value no_default behind_name named_parameter bracketed_parameter rest_parameter block_parameter sign_parameter simple_parameters parameters block_parameters brace_parts do_parts body_behind def_name def_in_brackets def_plain def_value plain_call lambda_block empty_brackets full_brackets lambda_call called arrow_parameters plain_block arrow_value then_sign else_part branch otherwise if_value unless_value loop_body while_value until_value when_clause case_value class_header rescue_clause body_else body_ensure handlers begin_value module_body class_value module_value keyword_form newlines behind_newlines paren closed brace_block do_block block tail paren_tail keyword_value word_value integer_value text ivar_value gvar_value top_constant word_list embedded interpolated parenthesized array label_key pair_in_braces hash_value name_call constant_value super_value yield_value prim dot_part scope_part bracket post not_level power_level minus_level product_level sum_level shift_level comparison_level equal_level equality_level and_level or_level range_level ternary argument command_arguments command_part splat item more_items splat_list other_items one_value nested_value right_side jump_value jump command_level block_argument label_pair arrow_pair arguments_from arguments cargs more_pairs method_name not_expression expression alias_statement undef_statement simple modifier statement line statement_list
 c_ternary true r = (inl refl, refl, refl, λ l x k. omega (arith, d.depth_if l.0 (x.1.0) (x.1.1) (act.nodes l.0 (x.1.1)) (act.start x.0)), c_range true r, (refl, tt, (refl, tt, (λ x. omega arith, (refl, tt, tt)))))
 c_ternary false r = (inl refl, refl, refl, λ l x k. omega (arith, d.depth_if l.0 (x.1.0) (x.1.1) (act.nodes l.0 (x.1.1)) (act.start x.0)), c_range false r, (refl, tt, (refl, tt, (λ x. omega arith, (refl, tt, tt)))))
 
@@ -655,7 +656,7 @@ module _ (d r : Bool) (value updated : R (marked tree)) where
       (λ t less k x j. no_class updates c g t less x j) (λ m y t less e x j. fresh _ _ e)
 
 c_assignment : (d r : Bool) (value updated : R (marked tree)) → Checks table value → Checks table updated → Checks table (assignment d r value updated)
-unfolding table parameter_name bracketed_names more_parameters default_value no_default behind_name named_parameter bracketed_parameter rest_parameter block_parameter sign_parameter simple_parameters parameters block_parameters brace_parts do_parts body_behind def_name def_in_brackets def_plain def_value plain_call lambda_block empty_brackets full_brackets lambda_call called arrow_parameters plain_block arrow_value then_sign else_part branch otherwise if_value unless_value loop_body while_value until_value when_clause case_value class_header rescue_clause body_else body_ensure handlers begin_value module_body class_value module_value keyword_form newlines behind_newlines paren closed brace_block do_block block tail paren_tail keyword_value word_value integer_value text ivar_value gvar_value top_constant word_list embedded interpolated parenthesized array label_key pair_in_braces hash_value name_call constant_value super_value yield_value prim dot_part scope_part bracket post not_level power_level minus_level product_level sum_level shift_level comparison_level equal_level equality_level and_level or_level range_level ternary argument command_arguments command_part splat item more_items splat_list other_items one_value nested_value right_side jump_value jump command_level block_argument label_pair arrow_pair arguments_from arguments cargs more_pairs method_name not_expression expression alias_statement undef_statement simple modifier statement line statement_list Quiet
+unfolding table placed target star_target behind_target next_target more_targets starred_set several_set parameter_name bracketed_names more_parameters default_value no_default behind_name named_parameter bracketed_parameter rest_parameter block_parameter sign_parameter simple_parameters parameters block_parameters brace_parts do_parts body_behind def_name def_in_brackets def_plain def_value plain_call lambda_block empty_brackets full_brackets lambda_call called arrow_parameters plain_block arrow_value then_sign else_part branch otherwise if_value unless_value loop_body while_value until_value when_clause case_value class_header rescue_clause body_else body_ensure handlers begin_value module_body class_value module_value keyword_form newlines behind_newlines paren closed brace_block do_block block tail paren_tail keyword_value word_value integer_value text ivar_value gvar_value top_constant word_list embedded interpolated parenthesized array label_key pair_in_braces hash_value name_call constant_value super_value yield_value prim dot_part scope_part bracket post not_level power_level minus_level product_level sum_level shift_level comparison_level equal_level equality_level and_level or_level range_level ternary argument command_arguments command_part splat item more_items splat_list other_items one_value nested_value right_side jump_value jump command_level block_argument label_pair arrow_pair arguments_from arguments cargs more_pairs method_name not_expression expression alias_statement undef_statement simple modifier statement line statement_list Quiet
 c_assignment true r value updated cv cu = (
   inr (λ l t less k g h. quiet_variable true r value updated l updates
       (quiet_sets true r value updated l updates (quiet_class (ternary true r) l updates refl) refl (λ n m e. set_not act.is_attribute l n m e k))
@@ -692,21 +693,21 @@ c_assignment false r value updated cv cu = (
 )
 
 pub c_argument : (d r : Bool) → Checks table (argument d r)
-unfolding table parameter_name bracketed_names more_parameters default_value no_default behind_name named_parameter bracketed_parameter rest_parameter block_parameter sign_parameter simple_parameters parameters block_parameters brace_parts do_parts body_behind def_name def_in_brackets def_plain def_value plain_call lambda_block empty_brackets full_brackets lambda_call called arrow_parameters plain_block arrow_value then_sign else_part branch otherwise if_value unless_value loop_body while_value until_value when_clause case_value class_header rescue_clause body_else body_ensure handlers begin_value module_body class_value module_value keyword_form newlines behind_newlines paren closed brace_block do_block block tail paren_tail keyword_value word_value integer_value text ivar_value gvar_value top_constant word_list embedded interpolated parenthesized array label_key pair_in_braces hash_value name_call constant_value super_value yield_value prim dot_part scope_part bracket post not_level power_level minus_level product_level sum_level shift_level comparison_level equal_level equality_level and_level or_level range_level ternary argument command_arguments command_part splat item more_items splat_list other_items one_value nested_value right_side jump_value jump command_level block_argument label_pair arrow_pair arguments_from arguments cargs more_pairs method_name not_expression expression alias_statement undef_statement simple modifier statement line statement_list
+unfolding table placed target star_target behind_target next_target more_targets starred_set several_set parameter_name bracketed_names more_parameters default_value no_default behind_name named_parameter bracketed_parameter rest_parameter block_parameter sign_parameter simple_parameters parameters block_parameters brace_parts do_parts body_behind def_name def_in_brackets def_plain def_value plain_call lambda_block empty_brackets full_brackets lambda_call called arrow_parameters plain_block arrow_value then_sign else_part branch otherwise if_value unless_value loop_body while_value until_value when_clause case_value class_header rescue_clause body_else body_ensure handlers begin_value module_body class_value module_value keyword_form newlines behind_newlines paren closed brace_block do_block block tail paren_tail keyword_value word_value integer_value text ivar_value gvar_value top_constant word_list embedded interpolated parenthesized array label_key pair_in_braces hash_value name_call constant_value super_value yield_value prim dot_part scope_part bracket post not_level power_level minus_level product_level sum_level shift_level comparison_level equal_level equality_level and_level or_level range_level ternary argument command_arguments command_part splat item more_items splat_list other_items one_value nested_value right_side jump_value jump command_level block_argument label_pair arrow_pair arguments_from arguments cargs more_pairs method_name not_expression expression alias_statement undef_statement simple modifier statement line statement_list
 c_argument true r = c_assignment true r (plain (named (part p.Argument true r))) (plain (named (part p.Argument true r))) (λ x. omega arith, tt) (λ x. omega arith, tt)
 c_argument false r = c_assignment false r (plain (named (part p.Argument false r))) (plain (named (part p.Argument false r))) (λ x. omega arith, tt) (λ x. omega arith, tt)
 
 c_args : (d r blocks : Bool) → Checks table (command_arguments d r blocks)
-unfolding table parameter_name bracketed_names more_parameters default_value no_default behind_name named_parameter bracketed_parameter rest_parameter block_parameter sign_parameter simple_parameters parameters block_parameters brace_parts do_parts body_behind def_name def_in_brackets def_plain def_value plain_call lambda_block empty_brackets full_brackets lambda_call called arrow_parameters plain_block arrow_value then_sign else_part branch otherwise if_value unless_value loop_body while_value until_value when_clause case_value class_header rescue_clause body_else body_ensure handlers begin_value module_body class_value module_value keyword_form newlines behind_newlines paren closed brace_block do_block block tail paren_tail keyword_value word_value integer_value text ivar_value gvar_value top_constant word_list embedded interpolated parenthesized array label_key pair_in_braces hash_value name_call constant_value super_value yield_value prim dot_part scope_part bracket post not_level power_level minus_level product_level sum_level shift_level comparison_level equal_level equality_level and_level or_level range_level ternary argument command_arguments command_part splat item more_items splat_list other_items one_value nested_value right_side jump_value jump command_level block_argument label_pair arrow_pair arguments_from arguments cargs more_pairs method_name not_expression expression alias_statement undef_statement simple modifier statement line statement_list
+unfolding table placed target star_target behind_target next_target more_targets starred_set several_set parameter_name bracketed_names more_parameters default_value no_default behind_name named_parameter bracketed_parameter rest_parameter block_parameter sign_parameter simple_parameters parameters block_parameters brace_parts do_parts body_behind def_name def_in_brackets def_plain def_value plain_call lambda_block empty_brackets full_brackets lambda_call called arrow_parameters plain_block arrow_value then_sign else_part branch otherwise if_value unless_value loop_body while_value until_value when_clause case_value class_header rescue_clause body_else body_ensure handlers begin_value module_body class_value module_value keyword_form newlines behind_newlines paren closed brace_block do_block block tail paren_tail keyword_value word_value integer_value text ivar_value gvar_value top_constant word_list embedded interpolated parenthesized array label_key pair_in_braces hash_value name_call constant_value super_value yield_value prim dot_part scope_part bracket post not_level power_level minus_level product_level sum_level shift_level comparison_level equal_level equality_level and_level or_level range_level ternary argument command_arguments command_part splat item more_items splat_list other_items one_value nested_value right_side jump_value jump command_level block_argument label_pair arrow_pair arguments_from arguments cargs more_pairs method_name not_expression expression alias_statement undef_statement simple modifier statement line statement_list
 c_args d r blocks = (refl, refl, (λ x. omega arith, (refl, tt)), (λ x. omega arith, (refl, tt)))
 
 c_do_beside : (r pass : Bool) → Included table (first table (do_beside r pass)) (key word.Do) × Included table (continues table (do_beside r pass)) (key word.Do) × (nullable table (do_beside r pass) ≡ true → true ≡ true) × Checks table (do_beside r pass)
-unfolding table parameter_name bracketed_names more_parameters default_value no_default behind_name named_parameter bracketed_parameter rest_parameter block_parameter sign_parameter simple_parameters parameters block_parameters brace_parts do_parts body_behind def_name def_in_brackets def_plain def_value plain_call lambda_block empty_brackets full_brackets lambda_call called arrow_parameters plain_block arrow_value then_sign else_part branch otherwise if_value unless_value loop_body while_value until_value when_clause case_value class_header rescue_clause body_else body_ensure handlers begin_value module_body class_value module_value keyword_form newlines behind_newlines paren closed brace_block do_block block tail paren_tail keyword_value word_value integer_value text ivar_value gvar_value top_constant word_list embedded interpolated parenthesized array label_key pair_in_braces hash_value name_call constant_value super_value yield_value prim dot_part scope_part bracket post not_level power_level minus_level product_level sum_level shift_level comparison_level equal_level equality_level and_level or_level range_level ternary argument command_arguments command_part splat item more_items splat_list other_items one_value nested_value right_side jump_value jump command_level block_argument label_pair arrow_pair arguments_from arguments cargs more_pairs method_name not_expression expression alias_statement undef_statement simple modifier statement line statement_list
+unfolding table placed target star_target behind_target next_target more_targets starred_set several_set parameter_name bracketed_names more_parameters default_value no_default behind_name named_parameter bracketed_parameter rest_parameter block_parameter sign_parameter simple_parameters parameters block_parameters brace_parts do_parts body_behind def_name def_in_brackets def_plain def_value plain_call lambda_block empty_brackets full_brackets lambda_call called arrow_parameters plain_block arrow_value then_sign else_part branch otherwise if_value unless_value loop_body while_value until_value when_clause case_value class_header rescue_clause body_else body_ensure handlers begin_value module_body class_value module_value keyword_form newlines behind_newlines paren closed brace_block do_block block tail paren_tail keyword_value word_value integer_value text ivar_value gvar_value top_constant word_list embedded interpolated parenthesized array label_key pair_in_braces hash_value name_call constant_value super_value yield_value prim dot_part scope_part bracket post not_level power_level minus_level product_level sum_level shift_level comparison_level equal_level equality_level and_level or_level range_level ternary argument command_arguments command_part splat item more_items splat_list other_items one_value nested_value right_side jump_value jump command_level block_argument label_pair arrow_pair arguments_from arguments cargs more_pairs method_name not_expression expression alias_statement undef_statement simple modifier statement line statement_list
 c_do_beside r true = (refl, refl, (λ h. refl), tt)
 c_do_beside r false = (refl, refl, (λ h. refl), (refl, refl, (λ x. refl, c_do r), tt))
 
 c_command_part : (d r : Bool) → Checks table (command_part d r)
-unfolding table parameter_name bracketed_names more_parameters default_value no_default behind_name named_parameter bracketed_parameter rest_parameter block_parameter sign_parameter simple_parameters parameters block_parameters brace_parts do_parts body_behind def_name def_in_brackets def_plain def_value plain_call lambda_block empty_brackets full_brackets lambda_call called arrow_parameters plain_block arrow_value then_sign else_part branch otherwise if_value unless_value loop_body while_value until_value when_clause case_value class_header rescue_clause body_else body_ensure handlers begin_value module_body class_value module_value keyword_form newlines behind_newlines paren closed brace_block do_block block tail paren_tail keyword_value word_value integer_value text ivar_value gvar_value top_constant word_list embedded interpolated parenthesized array label_key pair_in_braces hash_value name_call constant_value super_value yield_value prim dot_part scope_part bracket post not_level power_level minus_level product_level sum_level shift_level comparison_level equal_level equality_level and_level or_level range_level ternary argument command_arguments command_part splat item more_items splat_list other_items one_value nested_value right_side jump_value jump command_level block_argument label_pair arrow_pair arguments_from arguments cargs more_pairs method_name not_expression expression alias_statement undef_statement simple modifier statement line statement_list
+unfolding table placed target star_target behind_target next_target more_targets starred_set several_set parameter_name bracketed_names more_parameters default_value no_default behind_name named_parameter bracketed_parameter rest_parameter block_parameter sign_parameter simple_parameters parameters block_parameters brace_parts do_parts body_behind def_name def_in_brackets def_plain def_value plain_call lambda_block empty_brackets full_brackets lambda_call called arrow_parameters plain_block arrow_value then_sign else_part branch otherwise if_value unless_value loop_body while_value until_value when_clause case_value class_header rescue_clause body_else body_ensure handlers begin_value module_body class_value module_value keyword_form newlines behind_newlines paren closed brace_block do_block block tail paren_tail keyword_value word_value integer_value text ivar_value gvar_value top_constant word_list embedded interpolated parenthesized array label_key pair_in_braces hash_value name_call constant_value super_value yield_value prim dot_part scope_part bracket post not_level power_level minus_level product_level sum_level shift_level comparison_level equal_level equality_level and_level or_level range_level ternary argument command_arguments command_part splat item more_items splat_list other_items one_value nested_value right_side jump_value jump command_level block_argument label_pair arrow_pair arguments_from arguments cargs more_pairs method_name not_expression expression alias_statement undef_statement simple modifier statement line statement_list
 c_command_part true r = (refl, c_args true r true, λ x. c_do_beside r (is_some (x.0.1.1)))
 c_command_part false r = (refl, c_args false r true, tt)
 
@@ -720,7 +721,7 @@ module _ (d r : Bool) (value : R (marked tree)) where
   Settled = (l : Node × ℕ) → ((n : Node) (m : ℕ) → l ≡ (n, act.ended m) → ⊥) → Quiet value l begins_command
 
 c_commanding : (d r : Bool) (value : R (marked tree)) → Checks table value → nullable table value ≡ false → Settled d r value → Checks table (commanding d r value)
-unfolding table parameter_name bracketed_names more_parameters default_value no_default behind_name named_parameter bracketed_parameter rest_parameter block_parameter sign_parameter simple_parameters parameters block_parameters brace_parts do_parts body_behind def_name def_in_brackets def_plain def_value plain_call lambda_block empty_brackets full_brackets lambda_call called arrow_parameters plain_block arrow_value then_sign else_part branch otherwise if_value unless_value loop_body while_value until_value when_clause case_value class_header rescue_clause body_else body_ensure handlers begin_value module_body class_value module_value keyword_form newlines behind_newlines paren closed brace_block do_block block tail paren_tail keyword_value word_value integer_value text ivar_value gvar_value top_constant word_list embedded interpolated parenthesized array label_key pair_in_braces hash_value name_call constant_value super_value yield_value prim dot_part scope_part bracket post not_level power_level minus_level product_level sum_level shift_level comparison_level equal_level equality_level and_level or_level range_level ternary argument command_arguments command_part splat item more_items splat_list other_items one_value nested_value right_side jump_value jump command_level block_argument label_pair arrow_pair arguments_from arguments cargs more_pairs method_name not_expression expression alias_statement undef_statement simple modifier statement line statement_list Quiet
+unfolding table placed target star_target behind_target next_target more_targets starred_set several_set parameter_name bracketed_names more_parameters default_value no_default behind_name named_parameter bracketed_parameter rest_parameter block_parameter sign_parameter simple_parameters parameters block_parameters brace_parts do_parts body_behind def_name def_in_brackets def_plain def_value plain_call lambda_block empty_brackets full_brackets lambda_call called arrow_parameters plain_block arrow_value then_sign else_part branch otherwise if_value unless_value loop_body while_value until_value when_clause case_value class_header rescue_clause body_else body_ensure handlers begin_value module_body class_value module_value keyword_form newlines behind_newlines paren closed brace_block do_block block tail paren_tail keyword_value word_value integer_value text ivar_value gvar_value top_constant word_list embedded interpolated parenthesized array label_key pair_in_braces hash_value name_call constant_value super_value yield_value prim dot_part scope_part bracket post not_level power_level minus_level product_level sum_level shift_level comparison_level equal_level equality_level and_level or_level range_level ternary argument command_arguments command_part splat item more_items splat_list other_items one_value nested_value right_side jump_value jump command_level block_argument label_pair arrow_pair arguments_from arguments cargs more_pairs method_name not_expression expression alias_statement undef_statement simple modifier statement line statement_list Quiet
 c_commanding true r value cv e q = (
   inr (λ l t less k g h. quiet_suffix 0 value (λ l. is_some (act.callee l)) (node {s = pair (marked args_sort) (optional tree)} {r = under (pair (marked args_sort) (optional tree))} (λ x. record { value = x }) (command_part true r)) act.command_node l begins_command
       (q l (λ n m e. yield_not l n m e k)) (λ t less x y z. yield_or_callee l k x) (λ m y t less e g j. yield_not l _ act.commanded e k) t less g (included_at table (first table (command_arguments true r false)) begins_command t refl less h)),
@@ -755,40 +756,40 @@ c_commanding false r value cv e q = (
 )
 
 settled : (d r : Bool) (value updated : R (marked tree)) → Settled d r (assignment d r value updated)
-unfolding table parameter_name bracketed_names more_parameters default_value no_default behind_name named_parameter bracketed_parameter rest_parameter block_parameter sign_parameter simple_parameters parameters block_parameters brace_parts do_parts body_behind def_name def_in_brackets def_plain def_value plain_call lambda_block empty_brackets full_brackets lambda_call called arrow_parameters plain_block arrow_value then_sign else_part branch otherwise if_value unless_value loop_body while_value until_value when_clause case_value class_header rescue_clause body_else body_ensure handlers begin_value module_body class_value module_value keyword_form newlines behind_newlines paren closed brace_block do_block block tail paren_tail keyword_value word_value integer_value text ivar_value gvar_value top_constant word_list embedded interpolated parenthesized array label_key pair_in_braces hash_value name_call constant_value super_value yield_value prim dot_part scope_part bracket post not_level power_level minus_level product_level sum_level shift_level comparison_level equal_level equality_level and_level or_level range_level ternary argument command_arguments command_part splat item more_items splat_list other_items one_value nested_value right_side jump_value jump command_level block_argument label_pair arrow_pair arguments_from arguments cargs more_pairs method_name not_expression expression alias_statement undef_statement simple modifier statement line statement_list
+unfolding table placed target star_target behind_target next_target more_targets starred_set several_set parameter_name bracketed_names more_parameters default_value no_default behind_name named_parameter bracketed_parameter rest_parameter block_parameter sign_parameter simple_parameters parameters block_parameters brace_parts do_parts body_behind def_name def_in_brackets def_plain def_value plain_call lambda_block empty_brackets full_brackets lambda_call called arrow_parameters plain_block arrow_value then_sign else_part branch otherwise if_value unless_value loop_body while_value until_value when_clause case_value class_header rescue_clause body_else body_ensure handlers begin_value module_body class_value module_value keyword_form newlines behind_newlines paren closed brace_block do_block block tail paren_tail keyword_value word_value integer_value text ivar_value gvar_value top_constant word_list embedded interpolated parenthesized array label_key pair_in_braces hash_value name_call constant_value super_value yield_value prim dot_part scope_part bracket post not_level power_level minus_level product_level sum_level shift_level comparison_level equal_level equality_level and_level or_level range_level ternary argument command_arguments command_part splat item more_items splat_list other_items one_value nested_value right_side jump_value jump command_level block_argument label_pair arrow_pair arguments_from arguments cargs more_pairs method_name not_expression expression alias_statement undef_statement simple modifier statement line statement_list
 settled true r value updated l fresh = quiet_assignment true r value updated l begins_command (quiet_class (ternary true r) l begins_command refl) refl refl fresh
 settled false r value updated l fresh = quiet_assignment false r value updated l begins_command (quiet_class (ternary false r) l begins_command refl) refl refl fresh
 
 c_splat : (d r : Bool) → Checks table (splat d r)
-unfolding table parameter_name bracketed_names more_parameters default_value no_default behind_name named_parameter bracketed_parameter rest_parameter block_parameter sign_parameter simple_parameters parameters block_parameters brace_parts do_parts body_behind def_name def_in_brackets def_plain def_value plain_call lambda_block empty_brackets full_brackets lambda_call called arrow_parameters plain_block arrow_value then_sign else_part branch otherwise if_value unless_value loop_body while_value until_value when_clause case_value class_header rescue_clause body_else body_ensure handlers begin_value module_body class_value module_value keyword_form newlines behind_newlines paren closed brace_block do_block block tail paren_tail keyword_value word_value integer_value text ivar_value gvar_value top_constant word_list embedded interpolated parenthesized array label_key pair_in_braces hash_value name_call constant_value super_value yield_value prim dot_part scope_part bracket post not_level power_level minus_level product_level sum_level shift_level comparison_level equal_level equality_level and_level or_level range_level ternary argument command_arguments command_part splat item more_items splat_list other_items one_value nested_value right_side jump_value jump command_level block_argument label_pair arrow_pair arguments_from arguments cargs more_pairs method_name not_expression expression alias_statement undef_statement simple modifier statement line statement_list
+unfolding table placed target star_target behind_target next_target more_targets starred_set several_set parameter_name bracketed_names more_parameters default_value no_default behind_name named_parameter bracketed_parameter rest_parameter block_parameter sign_parameter simple_parameters parameters block_parameters brace_parts do_parts body_behind def_name def_in_brackets def_plain def_value plain_call lambda_block empty_brackets full_brackets lambda_call called arrow_parameters plain_block arrow_value then_sign else_part branch otherwise if_value unless_value loop_body while_value until_value when_clause case_value class_header rescue_clause body_else body_ensure handlers begin_value module_body class_value module_value keyword_form newlines behind_newlines paren closed brace_block do_block block tail paren_tail keyword_value word_value integer_value text ivar_value gvar_value top_constant word_list embedded interpolated parenthesized array label_key pair_in_braces hash_value name_call constant_value super_value yield_value prim dot_part scope_part bracket post not_level power_level minus_level product_level sum_level shift_level comparison_level equal_level equality_level and_level or_level range_level ternary argument command_arguments command_part splat item more_items splat_list other_items one_value nested_value right_side jump_value jump command_level block_argument label_pair arrow_pair arguments_from arguments cargs more_pairs method_name not_expression expression alias_statement undef_statement simple modifier statement line statement_list
 c_splat b r = (λ x. omega (arith, d.depth_splat x.1 (act.from_token x.0 x.1) (act.start x.0)), (refl, tt, tt))
 
 c_item : (b r : Bool) → Checks table (item b r)
-unfolding table parameter_name bracketed_names more_parameters default_value no_default behind_name named_parameter bracketed_parameter rest_parameter block_parameter sign_parameter simple_parameters parameters block_parameters brace_parts do_parts body_behind def_name def_in_brackets def_plain def_value plain_call lambda_block empty_brackets full_brackets lambda_call called arrow_parameters plain_block arrow_value then_sign else_part branch otherwise if_value unless_value loop_body while_value until_value when_clause case_value class_header rescue_clause body_else body_ensure handlers begin_value module_body class_value module_value keyword_form newlines behind_newlines paren closed brace_block do_block block tail paren_tail keyword_value word_value integer_value text ivar_value gvar_value top_constant word_list embedded interpolated parenthesized array label_key pair_in_braces hash_value name_call constant_value super_value yield_value prim dot_part scope_part bracket post not_level power_level minus_level product_level sum_level shift_level comparison_level equal_level equality_level and_level or_level range_level ternary argument command_arguments command_part splat item more_items splat_list other_items one_value nested_value right_side jump_value jump command_level block_argument label_pair arrow_pair arguments_from arguments cargs more_pairs method_name not_expression expression alias_statement undef_statement simple modifier statement line statement_list
+unfolding table placed target star_target behind_target next_target more_targets starred_set several_set parameter_name bracketed_names more_parameters default_value no_default behind_name named_parameter bracketed_parameter rest_parameter block_parameter sign_parameter simple_parameters parameters block_parameters brace_parts do_parts body_behind def_name def_in_brackets def_plain def_value plain_call lambda_block empty_brackets full_brackets lambda_call called arrow_parameters plain_block arrow_value then_sign else_part branch otherwise if_value unless_value loop_body while_value until_value when_clause case_value class_header rescue_clause body_else body_ensure handlers begin_value module_body class_value module_value keyword_form newlines behind_newlines paren closed brace_block do_block block tail paren_tail keyword_value word_value integer_value text ivar_value gvar_value top_constant word_list embedded interpolated parenthesized array label_key pair_in_braces hash_value name_call constant_value super_value yield_value prim dot_part scope_part bracket post not_level power_level minus_level product_level sum_level shift_level comparison_level equal_level equality_level and_level or_level range_level ternary argument command_arguments command_part splat item more_items splat_list other_items one_value nested_value right_side jump_value jump command_level block_argument label_pair arrow_pair arguments_from arguments cargs more_pairs method_name not_expression expression alias_statement undef_statement simple modifier statement line statement_list
 c_item b r = (refl, refl, c_splat b r, tt)
 
 c_more : (b r : Bool) → Checks table (more_items b r)
-unfolding table parameter_name bracketed_names more_parameters default_value no_default behind_name named_parameter bracketed_parameter rest_parameter block_parameter sign_parameter simple_parameters parameters block_parameters brace_parts do_parts body_behind def_name def_in_brackets def_plain def_value plain_call lambda_block empty_brackets full_brackets lambda_call called arrow_parameters plain_block arrow_value then_sign else_part branch otherwise if_value unless_value loop_body while_value until_value when_clause case_value class_header rescue_clause body_else body_ensure handlers begin_value module_body class_value module_value keyword_form newlines behind_newlines paren closed brace_block do_block block tail paren_tail keyword_value word_value integer_value text ivar_value gvar_value top_constant word_list embedded interpolated parenthesized array label_key pair_in_braces hash_value name_call constant_value super_value yield_value prim dot_part scope_part bracket post not_level power_level minus_level product_level sum_level shift_level comparison_level equal_level equality_level and_level or_level range_level ternary argument command_arguments command_part splat item more_items splat_list other_items one_value nested_value right_side jump_value jump command_level block_argument label_pair arrow_pair arguments_from arguments cargs more_pairs method_name not_expression expression alias_statement undef_statement simple modifier statement line statement_list
+unfolding table placed target star_target behind_target next_target more_targets starred_set several_set parameter_name bracketed_names more_parameters default_value no_default behind_name named_parameter bracketed_parameter rest_parameter block_parameter sign_parameter simple_parameters parameters block_parameters brace_parts do_parts body_behind def_name def_in_brackets def_plain def_value plain_call lambda_block empty_brackets full_brackets lambda_call called arrow_parameters plain_block arrow_value then_sign else_part branch otherwise if_value unless_value loop_body while_value until_value when_clause case_value class_header rescue_clause body_else body_ensure handlers begin_value module_body class_value module_value keyword_form newlines behind_newlines paren closed brace_block do_block block tail paren_tail keyword_value word_value integer_value text ivar_value gvar_value top_constant word_list embedded interpolated parenthesized array label_key pair_in_braces hash_value name_call constant_value super_value yield_value prim dot_part scope_part bracket post not_level power_level minus_level product_level sum_level shift_level comparison_level equal_level equality_level and_level or_level range_level ternary argument command_arguments command_part splat item more_items splat_list other_items one_value nested_value right_side jump_value jump command_level block_argument label_pair arrow_pair arguments_from arguments cargs more_pairs method_name not_expression expression alias_statement undef_statement simple modifier statement line statement_list
 c_more true r = (refl, refl, (λ x. omega arith, (refl, tt, c_item true r)))
 c_more false r = (refl, refl, (λ x. omega arith, (refl, tt, c_item false r)))
 
 c_splats : (b r : Bool) → Checks table (splat_list b r)
-unfolding table parameter_name bracketed_names more_parameters default_value no_default behind_name named_parameter bracketed_parameter rest_parameter block_parameter sign_parameter simple_parameters parameters block_parameters brace_parts do_parts body_behind def_name def_in_brackets def_plain def_value plain_call lambda_block empty_brackets full_brackets lambda_call called arrow_parameters plain_block arrow_value then_sign else_part branch otherwise if_value unless_value loop_body while_value until_value when_clause case_value class_header rescue_clause body_else body_ensure handlers begin_value module_body class_value module_value keyword_form newlines behind_newlines paren closed brace_block do_block block tail paren_tail keyword_value word_value integer_value text ivar_value gvar_value top_constant word_list embedded interpolated parenthesized array label_key pair_in_braces hash_value name_call constant_value super_value yield_value prim dot_part scope_part bracket post not_level power_level minus_level product_level sum_level shift_level comparison_level equal_level equality_level and_level or_level range_level ternary argument command_arguments command_part splat item more_items splat_list other_items one_value nested_value right_side jump_value jump command_level block_argument label_pair arrow_pair arguments_from arguments cargs more_pairs method_name not_expression expression alias_statement undef_statement simple modifier statement line statement_list
+unfolding table placed target star_target behind_target next_target more_targets starred_set several_set parameter_name bracketed_names more_parameters default_value no_default behind_name named_parameter bracketed_parameter rest_parameter block_parameter sign_parameter simple_parameters parameters block_parameters brace_parts do_parts body_behind def_name def_in_brackets def_plain def_value plain_call lambda_block empty_brackets full_brackets lambda_call called arrow_parameters plain_block arrow_value then_sign else_part branch otherwise if_value unless_value loop_body while_value until_value when_clause case_value class_header rescue_clause body_else body_ensure handlers begin_value module_body class_value module_value keyword_form newlines behind_newlines paren closed brace_block do_block block tail paren_tail keyword_value word_value integer_value text ivar_value gvar_value top_constant word_list embedded interpolated parenthesized array label_key pair_in_braces hash_value name_call constant_value super_value yield_value prim dot_part scope_part bracket post not_level power_level minus_level product_level sum_level shift_level comparison_level equal_level equality_level and_level or_level range_level ternary argument command_arguments command_part splat item more_items splat_list other_items one_value nested_value right_side jump_value jump command_level block_argument label_pair arrow_pair arguments_from arguments cargs more_pairs method_name not_expression expression alias_statement undef_statement simple modifier statement line statement_list
 c_splats true r = (λ x. omega (arith, array_deep x.0 x.1), (refl, c_splat true r, c_more true r))
 c_splats false r = (λ x. omega (arith, array_deep x.0 x.1), (refl, c_splat false r, c_more false r))
 
 c_others : (b r : Bool) → Checks table (other_items b r)
-unfolding table parameter_name bracketed_names more_parameters default_value no_default behind_name named_parameter bracketed_parameter rest_parameter block_parameter sign_parameter simple_parameters parameters block_parameters brace_parts do_parts body_behind def_name def_in_brackets def_plain def_value plain_call lambda_block empty_brackets full_brackets lambda_call called arrow_parameters plain_block arrow_value then_sign else_part branch otherwise if_value unless_value loop_body while_value until_value when_clause case_value class_header rescue_clause body_else body_ensure handlers begin_value module_body class_value module_value keyword_form newlines behind_newlines paren closed brace_block do_block block tail paren_tail keyword_value word_value integer_value text ivar_value gvar_value top_constant word_list embedded interpolated parenthesized array label_key pair_in_braces hash_value name_call constant_value super_value yield_value prim dot_part scope_part bracket post not_level power_level minus_level product_level sum_level shift_level comparison_level equal_level equality_level and_level or_level range_level ternary argument command_arguments command_part splat item more_items splat_list other_items one_value nested_value right_side jump_value jump command_level block_argument label_pair arrow_pair arguments_from arguments cargs more_pairs method_name not_expression expression alias_statement undef_statement simple modifier statement line statement_list
+unfolding table placed target star_target behind_target next_target more_targets starred_set several_set parameter_name bracketed_names more_parameters default_value no_default behind_name named_parameter bracketed_parameter rest_parameter block_parameter sign_parameter simple_parameters parameters block_parameters brace_parts do_parts body_behind def_name def_in_brackets def_plain def_value plain_call lambda_block empty_brackets full_brackets lambda_call called arrow_parameters plain_block arrow_value then_sign else_part branch otherwise if_value unless_value loop_body while_value until_value when_clause case_value class_header rescue_clause body_else body_ensure handlers begin_value module_body class_value module_value keyword_form newlines behind_newlines paren closed brace_block do_block block tail paren_tail keyword_value word_value integer_value text ivar_value gvar_value top_constant word_list embedded interpolated parenthesized array label_key pair_in_braces hash_value name_call constant_value super_value yield_value prim dot_part scope_part bracket post not_level power_level minus_level product_level sum_level shift_level comparison_level equal_level equality_level and_level or_level range_level ternary argument command_arguments command_part splat item more_items splat_list other_items one_value nested_value right_side jump_value jump command_level block_argument label_pair arrow_pair arguments_from arguments cargs more_pairs method_name not_expression expression alias_statement undef_statement simple modifier statement line statement_list
 c_others true r = (λ x. refl, (refl, (λ x. omega arith, (refl, tt, c_item true r)), c_more true r))
 c_others false r = (λ x. refl, (refl, (λ x. omega arith, (refl, tt, c_item false r)), c_more false r))
 
 pub c_one : (b r : Bool) → Checks table (one_value b r)
-unfolding table parameter_name bracketed_names more_parameters default_value no_default behind_name named_parameter bracketed_parameter rest_parameter block_parameter sign_parameter simple_parameters parameters block_parameters brace_parts do_parts body_behind def_name def_in_brackets def_plain def_value plain_call lambda_block empty_brackets full_brackets lambda_call called arrow_parameters plain_block arrow_value then_sign else_part branch otherwise if_value unless_value loop_body while_value until_value when_clause case_value class_header rescue_clause body_else body_ensure handlers begin_value module_body class_value module_value keyword_form newlines behind_newlines paren closed brace_block do_block block tail paren_tail keyword_value word_value integer_value text ivar_value gvar_value top_constant word_list embedded interpolated parenthesized array label_key pair_in_braces hash_value name_call constant_value super_value yield_value prim dot_part scope_part bracket post not_level power_level minus_level product_level sum_level shift_level comparison_level equal_level equality_level and_level or_level range_level ternary argument command_arguments command_part splat item more_items splat_list other_items one_value nested_value right_side jump_value jump command_level block_argument label_pair arrow_pair arguments_from arguments cargs more_pairs method_name not_expression expression alias_statement undef_statement simple modifier statement line statement_list
+unfolding table placed target star_target behind_target next_target more_targets starred_set several_set parameter_name bracketed_names more_parameters default_value no_default behind_name named_parameter bracketed_parameter rest_parameter block_parameter sign_parameter simple_parameters parameters block_parameters brace_parts do_parts body_behind def_name def_in_brackets def_plain def_value plain_call lambda_block empty_brackets full_brackets lambda_call called arrow_parameters plain_block arrow_value then_sign else_part branch otherwise if_value unless_value loop_body while_value until_value when_clause case_value class_header rescue_clause body_else body_ensure handlers begin_value module_body class_value module_value keyword_form newlines behind_newlines paren closed brace_block do_block block tail paren_tail keyword_value word_value integer_value text ivar_value gvar_value top_constant word_list embedded interpolated parenthesized array label_key pair_in_braces hash_value name_call constant_value super_value yield_value prim dot_part scope_part bracket post not_level power_level minus_level product_level sum_level shift_level comparison_level equal_level equality_level and_level or_level range_level ternary argument command_arguments command_part splat item more_items splat_list other_items one_value nested_value right_side jump_value jump command_level block_argument label_pair arrow_pair arguments_from arguments cargs more_pairs method_name not_expression expression alias_statement undef_statement simple modifier statement line statement_list
 c_one true r = c_commanding true r (assignment true r (named (part p.NestedValue true r)) (named (part p.OneValue true r))) (c_assignment true r (named (part p.NestedValue true r)) (named (part p.OneValue true r)) tt tt) refl (settled true r (named (part p.NestedValue true r)) (named (part p.OneValue true r)))
 c_one false r = c_commanding false r (assignment false r (named (part p.NestedValue false r)) (named (part p.OneValue false r))) (c_assignment false r (named (part p.NestedValue false r)) (named (part p.OneValue false r)) tt tt) refl (settled false r (named (part p.NestedValue false r)) (named (part p.OneValue false r)))
 
 pub c_nested : (b r : Bool) → Checks table (nested_value b r)
-unfolding table parameter_name bracketed_names more_parameters default_value no_default behind_name named_parameter bracketed_parameter rest_parameter block_parameter sign_parameter simple_parameters parameters block_parameters brace_parts do_parts body_behind def_name def_in_brackets def_plain def_value plain_call lambda_block empty_brackets full_brackets lambda_call called arrow_parameters plain_block arrow_value then_sign else_part branch otherwise if_value unless_value loop_body while_value until_value when_clause case_value class_header rescue_clause body_else body_ensure handlers begin_value module_body class_value module_value keyword_form newlines behind_newlines paren closed brace_block do_block block tail paren_tail keyword_value word_value integer_value text ivar_value gvar_value top_constant word_list embedded interpolated parenthesized array label_key pair_in_braces hash_value name_call constant_value super_value yield_value prim dot_part scope_part bracket post not_level power_level minus_level product_level sum_level shift_level comparison_level equal_level equality_level and_level or_level range_level ternary argument command_arguments command_part splat item more_items splat_list other_items one_value nested_value right_side jump_value jump command_level block_argument label_pair arrow_pair arguments_from arguments cargs more_pairs method_name not_expression expression alias_statement undef_statement simple modifier statement line statement_list
+unfolding table placed target star_target behind_target next_target more_targets starred_set several_set parameter_name bracketed_names more_parameters default_value no_default behind_name named_parameter bracketed_parameter rest_parameter block_parameter sign_parameter simple_parameters parameters block_parameters brace_parts do_parts body_behind def_name def_in_brackets def_plain def_value plain_call lambda_block empty_brackets full_brackets lambda_call called arrow_parameters plain_block arrow_value then_sign else_part branch otherwise if_value unless_value loop_body while_value until_value when_clause case_value class_header rescue_clause body_else body_ensure handlers begin_value module_body class_value module_value keyword_form newlines behind_newlines paren closed brace_block do_block block tail paren_tail keyword_value word_value integer_value text ivar_value gvar_value top_constant word_list embedded interpolated parenthesized array label_key pair_in_braces hash_value name_call constant_value super_value yield_value prim dot_part scope_part bracket post not_level power_level minus_level product_level sum_level shift_level comparison_level equal_level equality_level and_level or_level range_level ternary argument command_arguments command_part splat item more_items splat_list other_items one_value nested_value right_side jump_value jump command_level block_argument label_pair arrow_pair arguments_from arguments cargs more_pairs method_name not_expression expression alias_statement undef_statement simple modifier statement line statement_list
 c_nested true r = (refl, refl, (λ x. omega arith, c_splats true r), c_one true r)
 c_nested false r = (refl, refl, (λ x. omega arith, c_splats false r), c_one false r)
 
@@ -834,7 +835,7 @@ last_variable d r l m y t e (z, e3, (x, e2, inl g)) j k = ends_quiet l _ (y.valu
 last_variable d r l m y t e (z, e3, (x, e2, inr g)) j k = true≢false (sym g.0)
 
 pub quiet_comma : (d r : Bool) (l : Node × ℕ) → not (nat_eq l.1 act.commanded) ≡ true → Quiet (one_value d r) l (op mark.Comma)
-unfolding table parameter_name bracketed_names more_parameters default_value no_default behind_name named_parameter bracketed_parameter rest_parameter block_parameter sign_parameter simple_parameters parameters block_parameters brace_parts do_parts body_behind def_name def_in_brackets def_plain def_value plain_call lambda_block empty_brackets full_brackets lambda_call called arrow_parameters plain_block arrow_value then_sign else_part branch otherwise if_value unless_value loop_body while_value until_value when_clause case_value class_header rescue_clause body_else body_ensure handlers begin_value module_body class_value module_value keyword_form newlines behind_newlines paren closed brace_block do_block block tail paren_tail keyword_value word_value integer_value text ivar_value gvar_value top_constant word_list embedded interpolated parenthesized array label_key pair_in_braces hash_value name_call constant_value super_value yield_value prim dot_part scope_part bracket post not_level power_level minus_level product_level sum_level shift_level comparison_level equal_level equality_level and_level or_level range_level ternary argument command_arguments command_part splat item more_items splat_list other_items one_value nested_value right_side jump_value jump command_level block_argument label_pair arrow_pair arguments_from arguments cargs more_pairs method_name not_expression expression alias_statement undef_statement simple modifier statement line statement_list Quiet
+unfolding table placed target star_target behind_target next_target more_targets starred_set several_set parameter_name bracketed_names more_parameters default_value no_default behind_name named_parameter bracketed_parameter rest_parameter block_parameter sign_parameter simple_parameters parameters block_parameters brace_parts do_parts body_behind def_name def_in_brackets def_plain def_value plain_call lambda_block empty_brackets full_brackets lambda_call called arrow_parameters plain_block arrow_value then_sign else_part branch otherwise if_value unless_value loop_body while_value until_value when_clause case_value class_header rescue_clause body_else body_ensure handlers begin_value module_body class_value module_value keyword_form newlines behind_newlines paren closed brace_block do_block block tail paren_tail keyword_value word_value integer_value text ivar_value gvar_value top_constant word_list embedded interpolated parenthesized array label_key pair_in_braces hash_value name_call constant_value super_value yield_value prim dot_part scope_part bracket post not_level power_level minus_level product_level sum_level shift_level comparison_level equal_level equality_level and_level or_level range_level ternary argument command_arguments command_part splat item more_items splat_list other_items one_value nested_value right_side jump_value jump command_level block_argument label_pair arrow_pair arguments_from arguments cargs more_pairs method_name not_expression expression alias_statement undef_statement simple modifier statement line statement_list Quiet
 quiet_comma true r l k = quiet_suffix 0 (commands true r (assignment true r (named (part p.NestedValue true r)) (named (part p.OneValue true r)))) act.yields (node {s = marked args_sort} {r = under (marked args_sort)} (λ x. record { value = x }) (command_arguments true r false)) act.yield_command l (op mark.Comma)
     (quiet_suffix 0 (assignment true r (named (part p.NestedValue true r)) (named (part p.OneValue true r))) (λ l. is_some (act.callee l)) (node {s = pair (marked args_sort) (optional tree)} {r = under (pair (marked args_sort) (optional tree))} (λ x. record { value = x }) (command_part true r)) act.command_node l (op mark.Comma)
     (quiet_suffix 0 (updates_variable true r (named (part p.NestedValue true r)) (named (part p.OneValue true r))) act.sets_attribute (update_part true r (named (part p.OneValue true r))) act.attribute_updated l (op mark.Comma)
@@ -869,35 +870,35 @@ quiet_comma false r l k = quiet_suffix 0 (commands false r (assignment false r (
     (λ m y t less e g j. by_command l m e k)
 
 pub c_right : (b r : Bool) → Checks table (right_side b r)
-unfolding table parameter_name bracketed_names more_parameters default_value no_default behind_name named_parameter bracketed_parameter rest_parameter block_parameter sign_parameter simple_parameters parameters block_parameters brace_parts do_parts body_behind def_name def_in_brackets def_plain def_value plain_call lambda_block empty_brackets full_brackets lambda_call called arrow_parameters plain_block arrow_value then_sign else_part branch otherwise if_value unless_value loop_body while_value until_value when_clause case_value class_header rescue_clause body_else body_ensure handlers begin_value module_body class_value module_value keyword_form newlines behind_newlines paren closed brace_block do_block block tail paren_tail keyword_value word_value integer_value text ivar_value gvar_value top_constant word_list embedded interpolated parenthesized array label_key pair_in_braces hash_value name_call constant_value super_value yield_value prim dot_part scope_part bracket post not_level power_level minus_level product_level sum_level shift_level comparison_level equal_level equality_level and_level or_level range_level ternary argument command_arguments command_part splat item more_items splat_list other_items one_value nested_value right_side jump_value jump command_level block_argument label_pair arrow_pair arguments_from arguments cargs more_pairs method_name not_expression expression alias_statement undef_statement simple modifier statement line statement_list Quiet
+unfolding table placed target star_target behind_target next_target more_targets starred_set several_set parameter_name bracketed_names more_parameters default_value no_default behind_name named_parameter bracketed_parameter rest_parameter block_parameter sign_parameter simple_parameters parameters block_parameters brace_parts do_parts body_behind def_name def_in_brackets def_plain def_value plain_call lambda_block empty_brackets full_brackets lambda_call called arrow_parameters plain_block arrow_value then_sign else_part branch otherwise if_value unless_value loop_body while_value until_value when_clause case_value class_header rescue_clause body_else body_ensure handlers begin_value module_body class_value module_value keyword_form newlines behind_newlines paren closed brace_block do_block block tail paren_tail keyword_value word_value integer_value text ivar_value gvar_value top_constant word_list embedded interpolated parenthesized array label_key pair_in_braces hash_value name_call constant_value super_value yield_value prim dot_part scope_part bracket post not_level power_level minus_level product_level sum_level shift_level comparison_level equal_level equality_level and_level or_level range_level ternary argument command_arguments command_part splat item more_items splat_list other_items one_value nested_value right_side jump_value jump command_level block_argument label_pair arrow_pair arguments_from arguments cargs more_pairs method_name not_expression expression alias_statement undef_statement simple modifier statement line statement_list Quiet
 c_right true r = (refl, refl, (λ x. omega arith, c_splats true r), (inr (λ l t less k g h. quiet_comma true r l k t less g h), refl, refl, λ l x k. omega (arith, array_deep l.0 x), c_one true r, c_others true r))
 c_right false r = (refl, refl, (λ x. omega arith, c_splats false r), (inr (λ l t less k g h. quiet_comma false r l k t less g h), refl, refl, λ l x k. omega (arith, array_deep l.0 x), c_one false r, c_others false r))
 
 c_jump_value : (b r : Bool) → Checks table (jump_value b r)
-unfolding table parameter_name bracketed_names more_parameters default_value no_default behind_name named_parameter bracketed_parameter rest_parameter block_parameter sign_parameter simple_parameters parameters block_parameters brace_parts do_parts body_behind def_name def_in_brackets def_plain def_value plain_call lambda_block empty_brackets full_brackets lambda_call called arrow_parameters plain_block arrow_value then_sign else_part branch otherwise if_value unless_value loop_body while_value until_value when_clause case_value class_header rescue_clause body_else body_ensure handlers begin_value module_body class_value module_value keyword_form newlines behind_newlines paren closed brace_block do_block block tail paren_tail keyword_value word_value integer_value text ivar_value gvar_value top_constant word_list embedded interpolated parenthesized array label_key pair_in_braces hash_value name_call constant_value super_value yield_value prim dot_part scope_part bracket post not_level power_level minus_level product_level sum_level shift_level comparison_level equal_level equality_level and_level or_level range_level ternary argument command_arguments command_part splat item more_items splat_list other_items one_value nested_value right_side jump_value jump command_level block_argument label_pair arrow_pair arguments_from arguments cargs more_pairs method_name not_expression expression alias_statement undef_statement simple modifier statement line statement_list
+unfolding table placed target star_target behind_target next_target more_targets starred_set several_set parameter_name bracketed_names more_parameters default_value no_default behind_name named_parameter bracketed_parameter rest_parameter block_parameter sign_parameter simple_parameters parameters block_parameters brace_parts do_parts body_behind def_name def_in_brackets def_plain def_value plain_call lambda_block empty_brackets full_brackets lambda_call called arrow_parameters plain_block arrow_value then_sign else_part branch otherwise if_value unless_value loop_body while_value until_value when_clause case_value class_header rescue_clause body_else body_ensure handlers begin_value module_body class_value module_value keyword_form newlines behind_newlines paren closed brace_block do_block block tail paren_tail keyword_value word_value integer_value text ivar_value gvar_value top_constant word_list embedded interpolated parenthesized array label_key pair_in_braces hash_value name_call constant_value super_value yield_value prim dot_part scope_part bracket post not_level power_level minus_level product_level sum_level shift_level comparison_level equal_level equality_level and_level or_level range_level ternary argument command_arguments command_part splat item more_items splat_list other_items one_value nested_value right_side jump_value jump command_level block_argument label_pair arrow_pair arguments_from arguments cargs more_pairs method_name not_expression expression alias_statement undef_statement simple modifier statement line statement_list
 c_jump_value true r = (refl, refl, (λ x. omega arith, c_splats true r), (inl refl, refl, refl, λ l x k. omega (arith, array_deep l.0 x), (λ x. omega arith, tt), c_others true r))
 c_jump_value false r = (refl, refl, (λ x. omega arith, c_splats false r), (inl refl, refl, refl, λ l x k. omega (arith, array_deep l.0 x), (λ x. omega arith, tt), c_others false r))
 
 c_jump : (b r : Bool) → Checks table (jump b r)
-unfolding table parameter_name bracketed_names more_parameters default_value no_default behind_name named_parameter bracketed_parameter rest_parameter block_parameter sign_parameter simple_parameters parameters block_parameters brace_parts do_parts body_behind def_name def_in_brackets def_plain def_value plain_call lambda_block empty_brackets full_brackets lambda_call called arrow_parameters plain_block arrow_value then_sign else_part branch otherwise if_value unless_value loop_body while_value until_value when_clause case_value class_header rescue_clause body_else body_ensure handlers begin_value module_body class_value module_value keyword_form newlines behind_newlines paren closed brace_block do_block block tail paren_tail keyword_value word_value integer_value text ivar_value gvar_value top_constant word_list embedded interpolated parenthesized array label_key pair_in_braces hash_value name_call constant_value super_value yield_value prim dot_part scope_part bracket post not_level power_level minus_level product_level sum_level shift_level comparison_level equal_level equality_level and_level or_level range_level ternary argument command_arguments command_part splat item more_items splat_list other_items one_value nested_value right_side jump_value jump command_level block_argument label_pair arrow_pair arguments_from arguments cargs more_pairs method_name not_expression expression alias_statement undef_statement simple modifier statement line statement_list
+unfolding table placed target star_target behind_target next_target more_targets starred_set several_set parameter_name bracketed_names more_parameters default_value no_default behind_name named_parameter bracketed_parameter rest_parameter block_parameter sign_parameter simple_parameters parameters block_parameters brace_parts do_parts body_behind def_name def_in_brackets def_plain def_value plain_call lambda_block empty_brackets full_brackets lambda_call called arrow_parameters plain_block arrow_value then_sign else_part branch otherwise if_value unless_value loop_body while_value until_value when_clause case_value class_header rescue_clause body_else body_ensure handlers begin_value module_body class_value module_value keyword_form newlines behind_newlines paren closed brace_block do_block block tail paren_tail keyword_value word_value integer_value text ivar_value gvar_value top_constant word_list embedded interpolated parenthesized array label_key pair_in_braces hash_value name_call constant_value super_value yield_value prim dot_part scope_part bracket post not_level power_level minus_level product_level sum_level shift_level comparison_level equal_level equality_level and_level or_level range_level ternary argument command_arguments command_part splat item more_items splat_list other_items one_value nested_value right_side jump_value jump command_level block_argument label_pair arrow_pair arguments_from arguments cargs more_pairs method_name not_expression expression alias_statement undef_statement simple modifier statement line statement_list
 c_jump true r = (λ x. omega (arith, jump_deep x.0 x.1), (refl, tt, (refl, refl, (refl, c_jump_value true r), tt)))
 c_jump false r = (λ x. omega (arith, jump_deep x.0 x.1), (refl, tt, (refl, refl, (refl, c_jump_value false r), tt)))
 
 c_command : (b r : Bool) → Checks table (command_level b r)
-unfolding table parameter_name bracketed_names more_parameters default_value no_default behind_name named_parameter bracketed_parameter rest_parameter block_parameter sign_parameter simple_parameters parameters block_parameters brace_parts do_parts body_behind def_name def_in_brackets def_plain def_value plain_call lambda_block empty_brackets full_brackets lambda_call called arrow_parameters plain_block arrow_value then_sign else_part branch otherwise if_value unless_value loop_body while_value until_value when_clause case_value class_header rescue_clause body_else body_ensure handlers begin_value module_body class_value module_value keyword_form newlines behind_newlines paren closed brace_block do_block block tail paren_tail keyword_value word_value integer_value text ivar_value gvar_value top_constant word_list embedded interpolated parenthesized array label_key pair_in_braces hash_value name_call constant_value super_value yield_value prim dot_part scope_part bracket post not_level power_level minus_level product_level sum_level shift_level comparison_level equal_level equality_level and_level or_level range_level ternary argument command_arguments command_part splat item more_items splat_list other_items one_value nested_value right_side jump_value jump command_level block_argument label_pair arrow_pair arguments_from arguments cargs more_pairs method_name not_expression expression alias_statement undef_statement simple modifier statement line statement_list
+unfolding table placed target star_target behind_target next_target more_targets starred_set several_set parameter_name bracketed_names more_parameters default_value no_default behind_name named_parameter bracketed_parameter rest_parameter block_parameter sign_parameter simple_parameters parameters block_parameters brace_parts do_parts body_behind def_name def_in_brackets def_plain def_value plain_call lambda_block empty_brackets full_brackets lambda_call called arrow_parameters plain_block arrow_value then_sign else_part branch otherwise if_value unless_value loop_body while_value until_value when_clause case_value class_header rescue_clause body_else body_ensure handlers begin_value module_body class_value module_value keyword_form newlines behind_newlines paren closed brace_block do_block block tail paren_tail keyword_value word_value integer_value text ivar_value gvar_value top_constant word_list embedded interpolated parenthesized array label_key pair_in_braces hash_value name_call constant_value super_value yield_value prim dot_part scope_part bracket post not_level power_level minus_level product_level sum_level shift_level comparison_level equal_level equality_level and_level or_level range_level ternary argument command_arguments command_part splat item more_items splat_list other_items one_value nested_value right_side jump_value jump command_level block_argument label_pair arrow_pair arguments_from arguments cargs more_pairs method_name not_expression expression alias_statement undef_statement simple modifier statement line statement_list
 c_command true r = (refl, refl, c_jump true r, c_commanding true r (assignment true r (plain (named (part p.RightSide true r))) (named (part p.OneValue true r))) (c_assignment true r (plain (named (part p.RightSide true r))) (named (part p.OneValue true r)) (λ x. omega arith, tt) tt) refl (settled true r (plain (named (part p.RightSide true r))) (named (part p.OneValue true r))))
 c_command false r = (refl, refl, c_jump false r, c_commanding false r (assignment false r (plain (named (part p.RightSide false r))) (named (part p.OneValue false r))) (c_assignment false r (plain (named (part p.RightSide false r))) (named (part p.OneValue false r)) (λ x. omega arith, tt) tt) refl (settled false r (plain (named (part p.RightSide false r))) (named (part p.OneValue false r))))
 
 c_block_argument : (b r : Bool) → Checks table (block_argument b r)
-unfolding table parameter_name bracketed_names more_parameters default_value no_default behind_name named_parameter bracketed_parameter rest_parameter block_parameter sign_parameter simple_parameters parameters block_parameters brace_parts do_parts body_behind def_name def_in_brackets def_plain def_value plain_call lambda_block empty_brackets full_brackets lambda_call called arrow_parameters plain_block arrow_value then_sign else_part branch otherwise if_value unless_value loop_body while_value until_value when_clause case_value class_header rescue_clause body_else body_ensure handlers begin_value module_body class_value module_value keyword_form newlines behind_newlines paren closed brace_block do_block block tail paren_tail keyword_value word_value integer_value text ivar_value gvar_value top_constant word_list embedded interpolated parenthesized array label_key pair_in_braces hash_value name_call constant_value super_value yield_value prim dot_part scope_part bracket post not_level power_level minus_level product_level sum_level shift_level comparison_level equal_level equality_level and_level or_level range_level ternary argument command_arguments command_part splat item more_items splat_list other_items one_value nested_value right_side jump_value jump command_level block_argument label_pair arrow_pair arguments_from arguments cargs more_pairs method_name not_expression expression alias_statement undef_statement simple modifier statement line statement_list
+unfolding table placed target star_target behind_target next_target more_targets starred_set several_set parameter_name bracketed_names more_parameters default_value no_default behind_name named_parameter bracketed_parameter rest_parameter block_parameter sign_parameter simple_parameters parameters block_parameters brace_parts do_parts body_behind def_name def_in_brackets def_plain def_value plain_call lambda_block empty_brackets full_brackets lambda_call called arrow_parameters plain_block arrow_value then_sign else_part branch otherwise if_value unless_value loop_body while_value until_value when_clause case_value class_header rescue_clause body_else body_ensure handlers begin_value module_body class_value module_value keyword_form newlines behind_newlines paren closed brace_block do_block block tail paren_tail keyword_value word_value integer_value text ivar_value gvar_value top_constant word_list embedded interpolated parenthesized array label_key pair_in_braces hash_value name_call constant_value super_value yield_value prim dot_part scope_part bracket post not_level power_level minus_level product_level sum_level shift_level comparison_level equal_level equality_level and_level or_level range_level ternary argument command_arguments command_part splat item more_items splat_list other_items one_value nested_value right_side jump_value jump command_level block_argument label_pair arrow_pair arguments_from arguments cargs more_pairs method_name not_expression expression alias_statement undef_statement simple modifier statement line statement_list
 c_block_argument b r = (λ x. omega arith, (λ x. omega (arith, d.depth_block_pass x.1 (act.from_token x.0 x.1) (act.start x.0)), (refl, tt, tt)))
 
 c_label : (b r : Bool) → Checks table (label_pair b r)
-unfolding table parameter_name bracketed_names more_parameters default_value no_default behind_name named_parameter bracketed_parameter rest_parameter block_parameter sign_parameter simple_parameters parameters block_parameters brace_parts do_parts body_behind def_name def_in_brackets def_plain def_value plain_call lambda_block empty_brackets full_brackets lambda_call called arrow_parameters plain_block arrow_value then_sign else_part branch otherwise if_value unless_value loop_body while_value until_value when_clause case_value class_header rescue_clause body_else body_ensure handlers begin_value module_body class_value module_value keyword_form newlines behind_newlines paren closed brace_block do_block block tail paren_tail keyword_value word_value integer_value text ivar_value gvar_value top_constant word_list embedded interpolated parenthesized array label_key pair_in_braces hash_value name_call constant_value super_value yield_value prim dot_part scope_part bracket post not_level power_level minus_level product_level sum_level shift_level comparison_level equal_level equality_level and_level or_level range_level ternary argument command_arguments command_part splat item more_items splat_list other_items one_value nested_value right_side jump_value jump command_level block_argument label_pair arrow_pair arguments_from arguments cargs more_pairs method_name not_expression expression alias_statement undef_statement simple modifier statement line statement_list
+unfolding table placed target star_target behind_target next_target more_targets starred_set several_set parameter_name bracketed_names more_parameters default_value no_default behind_name named_parameter bracketed_parameter rest_parameter block_parameter sign_parameter simple_parameters parameters block_parameters brace_parts do_parts body_behind def_name def_in_brackets def_plain def_value plain_call lambda_block empty_brackets full_brackets lambda_call called arrow_parameters plain_block arrow_value then_sign else_part branch otherwise if_value unless_value loop_body while_value until_value when_clause case_value class_header rescue_clause body_else body_ensure handlers begin_value module_body class_value module_value keyword_form newlines behind_newlines paren closed brace_block do_block block tail paren_tail keyword_value word_value integer_value text ivar_value gvar_value top_constant word_list embedded interpolated parenthesized array label_key pair_in_braces hash_value name_call constant_value super_value yield_value prim dot_part scope_part bracket post not_level power_level minus_level product_level sum_level shift_level comparison_level equal_level equality_level and_level or_level range_level ternary argument command_arguments command_part splat item more_items splat_list other_items one_value nested_value right_side jump_value jump command_level block_argument label_pair arrow_pair arguments_from arguments cargs more_pairs method_name not_expression expression alias_statement undef_statement simple modifier statement line statement_list
 c_label b r = (λ x. omega arith, (λ x. omega arith, (refl, c_key, tt)))
 
 c_arrow : (b r : Bool) → Checks table (arrow_pair b r)
-unfolding table parameter_name bracketed_names more_parameters default_value no_default behind_name named_parameter bracketed_parameter rest_parameter block_parameter sign_parameter simple_parameters parameters block_parameters brace_parts do_parts body_behind def_name def_in_brackets def_plain def_value plain_call lambda_block empty_brackets full_brackets lambda_call called arrow_parameters plain_block arrow_value then_sign else_part branch otherwise if_value unless_value loop_body while_value until_value when_clause case_value class_header rescue_clause body_else body_ensure handlers begin_value module_body class_value module_value keyword_form newlines behind_newlines paren closed brace_block do_block block tail paren_tail keyword_value word_value integer_value text ivar_value gvar_value top_constant word_list embedded interpolated parenthesized array label_key pair_in_braces hash_value name_call constant_value super_value yield_value prim dot_part scope_part bracket post not_level power_level minus_level product_level sum_level shift_level comparison_level equal_level equality_level and_level or_level range_level ternary argument command_arguments command_part splat item more_items splat_list other_items one_value nested_value right_side jump_value jump command_level block_argument label_pair arrow_pair arguments_from arguments cargs more_pairs method_name not_expression expression alias_statement undef_statement simple modifier statement line statement_list
+unfolding table placed target star_target behind_target next_target more_targets starred_set several_set parameter_name bracketed_names more_parameters default_value no_default behind_name named_parameter bracketed_parameter rest_parameter block_parameter sign_parameter simple_parameters parameters block_parameters brace_parts do_parts body_behind def_name def_in_brackets def_plain def_value plain_call lambda_block empty_brackets full_brackets lambda_call called arrow_parameters plain_block arrow_value then_sign else_part branch otherwise if_value unless_value loop_body while_value until_value when_clause case_value class_header rescue_clause body_else body_ensure handlers begin_value module_body class_value module_value keyword_form newlines behind_newlines paren closed brace_block do_block block tail paren_tail keyword_value word_value integer_value text ivar_value gvar_value top_constant word_list embedded interpolated parenthesized array label_key pair_in_braces hash_value name_call constant_value super_value yield_value prim dot_part scope_part bracket post not_level power_level minus_level product_level sum_level shift_level comparison_level equal_level equality_level and_level or_level range_level ternary argument command_arguments command_part splat item more_items splat_list other_items one_value nested_value right_side jump_value jump command_level block_argument label_pair arrow_pair arguments_from arguments cargs more_pairs method_name not_expression expression alias_statement undef_statement simple modifier statement line statement_list
 c_arrow true r = (λ x. omega arith, (λ x. omega arith, (refl, tt, (λ x. omega arith, (refl, tt, tt)))))
 c_arrow false r = (λ x. omega arith, (λ x. omega arith, (refl, tt, (λ x. omega arith, (refl, tt, tt)))))
 
@@ -973,7 +974,7 @@ module _ (d r : Bool) (value : R (marked tree)) where
   with_arguments blocks = suffix 0 first_ones act.takes_more (behind_token (op mark.Comma) (after_comma d (named (part (p.Arguments blocks) d r)))) (finished d r)
 
 quiet_key : (d r : Bool) (value : R (marked tree)) (l : Args × ℕ) → Quiet (first_value value) l (op mark.Comma) → nullable table value ≡ false → Quiet (first_ones d r value) l (op mark.Comma)
-unfolding table parameter_name bracketed_names more_parameters default_value no_default behind_name named_parameter bracketed_parameter rest_parameter block_parameter sign_parameter simple_parameters parameters block_parameters brace_parts do_parts body_behind def_name def_in_brackets def_plain def_value plain_call lambda_block empty_brackets full_brackets lambda_call called arrow_parameters plain_block arrow_value then_sign else_part branch otherwise if_value unless_value loop_body while_value until_value when_clause case_value class_header rescue_clause body_else body_ensure handlers begin_value module_body class_value module_value keyword_form newlines behind_newlines paren closed brace_block do_block block tail paren_tail keyword_value word_value integer_value text ivar_value gvar_value top_constant word_list embedded interpolated parenthesized array label_key pair_in_braces hash_value name_call constant_value super_value yield_value prim dot_part scope_part bracket post not_level power_level minus_level product_level sum_level shift_level comparison_level equal_level equality_level and_level or_level range_level ternary argument command_arguments command_part splat item more_items splat_list other_items one_value nested_value right_side jump_value jump command_level block_argument label_pair arrow_pair arguments_from arguments cargs more_pairs method_name not_expression expression alias_statement undef_statement simple modifier statement line statement_list Quiet
+unfolding table placed target star_target behind_target next_target more_targets starred_set several_set parameter_name bracketed_names more_parameters default_value no_default behind_name named_parameter bracketed_parameter rest_parameter block_parameter sign_parameter simple_parameters parameters block_parameters brace_parts do_parts body_behind def_name def_in_brackets def_plain def_value plain_call lambda_block empty_brackets full_brackets lambda_call called arrow_parameters plain_block arrow_value then_sign else_part branch otherwise if_value unless_value loop_body while_value until_value when_clause case_value class_header rescue_clause body_else body_ensure handlers begin_value module_body class_value module_value keyword_form newlines behind_newlines paren closed brace_block do_block block tail paren_tail keyword_value word_value integer_value text ivar_value gvar_value top_constant word_list embedded interpolated parenthesized array label_key pair_in_braces hash_value name_call constant_value super_value yield_value prim dot_part scope_part bracket post not_level power_level minus_level product_level sum_level shift_level comparison_level equal_level equality_level and_level or_level range_level ternary argument command_arguments command_part splat item more_items splat_list other_items one_value nested_value right_side jump_value jump command_level block_argument label_pair arrow_pair arguments_from arguments cargs more_pairs method_name not_expression expression alias_statement undef_statement simple modifier statement line statement_list Quiet
 quiet_key true r value l q e = quiet_choice (splat_first true r value) (choice (label_first true r value) (key_or_value true r value)) l (op mark.Comma) refl
     (quiet_class (splat_first true r value) l (op mark.Comma) refl)
     (quiet_choice (label_first true r value) (key_or_value true r value) l (op mark.Comma) refl
@@ -990,14 +991,14 @@ quiet_key false r value l q e = quiet_choice (splat_first false r value) (choice
     (λ m y t less e g j. no_class (continues table (behind_token (op mark.FatArrow) (named (part p.Argument false r)))) (op mark.Comma) refl t less (continues_of table bounded (behind_token (op mark.FatArrow) (named (part p.Argument false r))) y t g) j)))
 
 quiet_argument : (d r : Bool) → OfArguments (argument d r)
-unfolding table parameter_name bracketed_names more_parameters default_value no_default behind_name named_parameter bracketed_parameter rest_parameter block_parameter sign_parameter simple_parameters parameters block_parameters brace_parts do_parts body_behind def_name def_in_brackets def_plain def_value plain_call lambda_block empty_brackets full_brackets lambda_call called arrow_parameters plain_block arrow_value then_sign else_part branch otherwise if_value unless_value loop_body while_value until_value when_clause case_value class_header rescue_clause body_else body_ensure handlers begin_value module_body class_value module_value keyword_form newlines behind_newlines paren closed brace_block do_block block tail paren_tail keyword_value word_value integer_value text ivar_value gvar_value top_constant word_list embedded interpolated parenthesized array label_key pair_in_braces hash_value name_call constant_value super_value yield_value prim dot_part scope_part bracket post not_level power_level minus_level product_level sum_level shift_level comparison_level equal_level equality_level and_level or_level range_level ternary argument command_arguments command_part splat item more_items splat_list other_items one_value nested_value right_side jump_value jump command_level block_argument label_pair arrow_pair arguments_from arguments cargs more_pairs method_name not_expression expression alias_statement undef_statement simple modifier statement line statement_list Quiet
+unfolding table placed target star_target behind_target next_target more_targets starred_set several_set parameter_name bracketed_names more_parameters default_value no_default behind_name named_parameter bracketed_parameter rest_parameter block_parameter sign_parameter simple_parameters parameters block_parameters brace_parts do_parts body_behind def_name def_in_brackets def_plain def_value plain_call lambda_block empty_brackets full_brackets lambda_call called arrow_parameters plain_block arrow_value then_sign else_part branch otherwise if_value unless_value loop_body while_value until_value when_clause case_value class_header rescue_clause body_else body_ensure handlers begin_value module_body class_value module_value keyword_form newlines behind_newlines paren closed brace_block do_block block tail paren_tail keyword_value word_value integer_value text ivar_value gvar_value top_constant word_list embedded interpolated parenthesized array label_key pair_in_braces hash_value name_call constant_value super_value yield_value prim dot_part scope_part bracket post not_level power_level minus_level product_level sum_level shift_level comparison_level equal_level equality_level and_level or_level range_level ternary argument command_arguments command_part splat item more_items splat_list other_items one_value nested_value right_side jump_value jump command_level block_argument label_pair arrow_pair arguments_from arguments cargs more_pairs method_name not_expression expression alias_statement undef_statement simple modifier statement line statement_list Quiet
 quiet_argument true r x k c (inl e) = subst (λ z. Quiet (argument true r) x z) (sym e) (quiet_class (argument true r) x (op mark.FatArrow) refl)
 quiet_argument true r x k c (inr e) = subst (λ z. Quiet (argument true r) x z) (sym e) (quiet_class (argument true r) x (op mark.Comma) refl)
 quiet_argument false r x k c (inl e) = subst (λ z. Quiet (argument false r) x z) (sym e) (quiet_class (argument false r) x (op mark.FatArrow) refl)
 quiet_argument false r x k c (inr e) = subst (λ z. Quiet (argument false r) x z) (sym e) (quiet_class (argument false r) x (op mark.Comma) refl)
 
 quiet_commanding : (d r : Bool) → OfArguments (commanding d r (argument d r))
-unfolding table parameter_name bracketed_names more_parameters default_value no_default behind_name named_parameter bracketed_parameter rest_parameter block_parameter sign_parameter simple_parameters parameters block_parameters brace_parts do_parts body_behind def_name def_in_brackets def_plain def_value plain_call lambda_block empty_brackets full_brackets lambda_call called arrow_parameters plain_block arrow_value then_sign else_part branch otherwise if_value unless_value loop_body while_value until_value when_clause case_value class_header rescue_clause body_else body_ensure handlers begin_value module_body class_value module_value keyword_form newlines behind_newlines paren closed brace_block do_block block tail paren_tail keyword_value word_value integer_value text ivar_value gvar_value top_constant word_list embedded interpolated parenthesized array label_key pair_in_braces hash_value name_call constant_value super_value yield_value prim dot_part scope_part bracket post not_level power_level minus_level product_level sum_level shift_level comparison_level equal_level equality_level and_level or_level range_level ternary argument command_arguments command_part splat item more_items splat_list other_items one_value nested_value right_side jump_value jump command_level block_argument label_pair arrow_pair arguments_from arguments cargs more_pairs method_name not_expression expression alias_statement undef_statement simple modifier statement line statement_list Quiet
+unfolding table placed target star_target behind_target next_target more_targets starred_set several_set parameter_name bracketed_names more_parameters default_value no_default behind_name named_parameter bracketed_parameter rest_parameter block_parameter sign_parameter simple_parameters parameters block_parameters brace_parts do_parts body_behind def_name def_in_brackets def_plain def_value plain_call lambda_block empty_brackets full_brackets lambda_call called arrow_parameters plain_block arrow_value then_sign else_part branch otherwise if_value unless_value loop_body while_value until_value when_clause case_value class_header rescue_clause body_else body_ensure handlers begin_value module_body class_value module_value keyword_form newlines behind_newlines paren closed brace_block do_block block tail paren_tail keyword_value word_value integer_value text ivar_value gvar_value top_constant word_list embedded interpolated parenthesized array label_key pair_in_braces hash_value name_call constant_value super_value yield_value prim dot_part scope_part bracket post not_level power_level minus_level product_level sum_level shift_level comparison_level equal_level equality_level and_level or_level range_level ternary argument command_arguments command_part splat item more_items splat_list other_items one_value nested_value right_side jump_value jump command_level block_argument label_pair arrow_pair arguments_from arguments cargs more_pairs method_name not_expression expression alias_statement undef_statement simple modifier statement line statement_list Quiet
 quiet_commanding true r l k c (inl e) = subst (λ z. Quiet (commanding true r (argument true r)) l z) (sym e)
     (quiet_suffix 0 (commands true r (argument true r)) act.yields (node {s = marked args_sort} {r = under (marked args_sort)} (λ x. record { value = x }) (command_arguments true r false)) act.yield_command l (op mark.FatArrow)
     (quiet_suffix 0 (argument true r) (λ l. is_some (act.callee l)) (node {s = pair (marked args_sort) (optional tree)} {r = under (pair (marked args_sort) (optional tree))} (λ x. record { value = x }) (command_part true r)) act.command_node l (op mark.FatArrow)
@@ -1032,7 +1033,7 @@ quiet_commanding false r l k c (inr e) = subst (λ z. Quiet (commanding false r 
     (λ m y t less e g j. by_command l m e k))
 
 c_arguments_of : (d r blocks : Bool) → Checks table (arguments_from d r (argument d r) blocks)
-unfolding table parameter_name bracketed_names more_parameters default_value no_default behind_name named_parameter bracketed_parameter rest_parameter block_parameter sign_parameter simple_parameters parameters block_parameters brace_parts do_parts body_behind def_name def_in_brackets def_plain def_value plain_call lambda_block empty_brackets full_brackets lambda_call called arrow_parameters plain_block arrow_value then_sign else_part branch otherwise if_value unless_value loop_body while_value until_value when_clause case_value class_header rescue_clause body_else body_ensure handlers begin_value module_body class_value module_value keyword_form newlines behind_newlines paren closed brace_block do_block block tail paren_tail keyword_value word_value integer_value text ivar_value gvar_value top_constant word_list embedded interpolated parenthesized array label_key pair_in_braces hash_value name_call constant_value super_value yield_value prim dot_part scope_part bracket post not_level power_level minus_level product_level sum_level shift_level comparison_level equal_level equality_level and_level or_level range_level ternary argument command_arguments command_part splat item more_items splat_list other_items one_value nested_value right_side jump_value jump command_level block_argument label_pair arrow_pair arguments_from arguments cargs more_pairs method_name not_expression expression alias_statement undef_statement simple modifier statement line statement_list Quiet
+unfolding table placed target star_target behind_target next_target more_targets starred_set several_set parameter_name bracketed_names more_parameters default_value no_default behind_name named_parameter bracketed_parameter rest_parameter block_parameter sign_parameter simple_parameters parameters block_parameters brace_parts do_parts body_behind def_name def_in_brackets def_plain def_value plain_call lambda_block empty_brackets full_brackets lambda_call called arrow_parameters plain_block arrow_value then_sign else_part branch otherwise if_value unless_value loop_body while_value until_value when_clause case_value class_header rescue_clause body_else body_ensure handlers begin_value module_body class_value module_value keyword_form newlines behind_newlines paren closed brace_block do_block block tail paren_tail keyword_value word_value integer_value text ivar_value gvar_value top_constant word_list embedded interpolated parenthesized array label_key pair_in_braces hash_value name_call constant_value super_value yield_value prim dot_part scope_part bracket post not_level power_level minus_level product_level sum_level shift_level comparison_level equal_level equality_level and_level or_level range_level ternary argument command_arguments command_part splat item more_items splat_list other_items one_value nested_value right_side jump_value jump command_level block_argument label_pair arrow_pair arguments_from arguments cargs more_pairs method_name not_expression expression alias_statement undef_statement simple modifier statement line statement_list Quiet
 c_arguments_of true r blocks = (
   inr (λ l t less k g h. quiet_suffix 0 (first_ones true r (argument true r)) act.takes_more (behind_token (op mark.Comma) (after_comma true (named (part (p.Arguments blocks) true r)))) (finished true r) l (op mark.Comma)
       (quiet_key true r (argument true r) l (quiet_keyed (argument true r) l k (op mark.Comma)) refl)
@@ -1091,12 +1092,12 @@ c_arguments_of false r blocks = (
 )
 
 c_commanded : (d r : Bool) → Checks table (commanding d r (argument d r))
-unfolding table parameter_name bracketed_names more_parameters default_value no_default behind_name named_parameter bracketed_parameter rest_parameter block_parameter sign_parameter simple_parameters parameters block_parameters brace_parts do_parts body_behind def_name def_in_brackets def_plain def_value plain_call lambda_block empty_brackets full_brackets lambda_call called arrow_parameters plain_block arrow_value then_sign else_part branch otherwise if_value unless_value loop_body while_value until_value when_clause case_value class_header rescue_clause body_else body_ensure handlers begin_value module_body class_value module_value keyword_form newlines behind_newlines paren closed brace_block do_block block tail paren_tail keyword_value word_value integer_value text ivar_value gvar_value top_constant word_list embedded interpolated parenthesized array label_key pair_in_braces hash_value name_call constant_value super_value yield_value prim dot_part scope_part bracket post not_level power_level minus_level product_level sum_level shift_level comparison_level equal_level equality_level and_level or_level range_level ternary argument command_arguments command_part splat item more_items splat_list other_items one_value nested_value right_side jump_value jump command_level block_argument label_pair arrow_pair arguments_from arguments cargs more_pairs method_name not_expression expression alias_statement undef_statement simple modifier statement line statement_list Quiet
+unfolding table placed target star_target behind_target next_target more_targets starred_set several_set parameter_name bracketed_names more_parameters default_value no_default behind_name named_parameter bracketed_parameter rest_parameter block_parameter sign_parameter simple_parameters parameters block_parameters brace_parts do_parts body_behind def_name def_in_brackets def_plain def_value plain_call lambda_block empty_brackets full_brackets lambda_call called arrow_parameters plain_block arrow_value then_sign else_part branch otherwise if_value unless_value loop_body while_value until_value when_clause case_value class_header rescue_clause body_else body_ensure handlers begin_value module_body class_value module_value keyword_form newlines behind_newlines paren closed brace_block do_block block tail paren_tail keyword_value word_value integer_value text ivar_value gvar_value top_constant word_list embedded interpolated parenthesized array label_key pair_in_braces hash_value name_call constant_value super_value yield_value prim dot_part scope_part bracket post not_level power_level minus_level product_level sum_level shift_level comparison_level equal_level equality_level and_level or_level range_level ternary argument command_arguments command_part splat item more_items splat_list other_items one_value nested_value right_side jump_value jump command_level block_argument label_pair arrow_pair arguments_from arguments cargs more_pairs method_name not_expression expression alias_statement undef_statement simple modifier statement line statement_list Quiet
 c_commanded true r = c_commanding true r (argument true r) (c_argument true r) refl (settled true r (plain (named (part p.Argument true r))) (plain (named (part p.Argument true r))))
 c_commanded false r = c_commanding false r (argument false r) (c_argument false r) refl (settled false r (plain (named (part p.Argument false r))) (plain (named (part p.Argument false r))))
 
 c_cargs_of : (d r blocks : Bool) → Checks table (arguments_from d r (commanding d r (argument d r)) blocks)
-unfolding table parameter_name bracketed_names more_parameters default_value no_default behind_name named_parameter bracketed_parameter rest_parameter block_parameter sign_parameter simple_parameters parameters block_parameters brace_parts do_parts body_behind def_name def_in_brackets def_plain def_value plain_call lambda_block empty_brackets full_brackets lambda_call called arrow_parameters plain_block arrow_value then_sign else_part branch otherwise if_value unless_value loop_body while_value until_value when_clause case_value class_header rescue_clause body_else body_ensure handlers begin_value module_body class_value module_value keyword_form newlines behind_newlines paren closed brace_block do_block block tail paren_tail keyword_value word_value integer_value text ivar_value gvar_value top_constant word_list embedded interpolated parenthesized array label_key pair_in_braces hash_value name_call constant_value super_value yield_value prim dot_part scope_part bracket post not_level power_level minus_level product_level sum_level shift_level comparison_level equal_level equality_level and_level or_level range_level ternary argument command_arguments command_part splat item more_items splat_list other_items one_value nested_value right_side jump_value jump command_level block_argument label_pair arrow_pair arguments_from arguments cargs more_pairs method_name not_expression expression alias_statement undef_statement simple modifier statement line statement_list Quiet
+unfolding table placed target star_target behind_target next_target more_targets starred_set several_set parameter_name bracketed_names more_parameters default_value no_default behind_name named_parameter bracketed_parameter rest_parameter block_parameter sign_parameter simple_parameters parameters block_parameters brace_parts do_parts body_behind def_name def_in_brackets def_plain def_value plain_call lambda_block empty_brackets full_brackets lambda_call called arrow_parameters plain_block arrow_value then_sign else_part branch otherwise if_value unless_value loop_body while_value until_value when_clause case_value class_header rescue_clause body_else body_ensure handlers begin_value module_body class_value module_value keyword_form newlines behind_newlines paren closed brace_block do_block block tail paren_tail keyword_value word_value integer_value text ivar_value gvar_value top_constant word_list embedded interpolated parenthesized array label_key pair_in_braces hash_value name_call constant_value super_value yield_value prim dot_part scope_part bracket post not_level power_level minus_level product_level sum_level shift_level comparison_level equal_level equality_level and_level or_level range_level ternary argument command_arguments command_part splat item more_items splat_list other_items one_value nested_value right_side jump_value jump command_level block_argument label_pair arrow_pair arguments_from arguments cargs more_pairs method_name not_expression expression alias_statement undef_statement simple modifier statement line statement_list Quiet
 c_cargs_of true r blocks = (
   inr (λ l t less k g h. quiet_suffix 0 (first_ones true r (commanding true r (argument true r))) act.takes_more (behind_token (op mark.Comma) (after_comma true (named (part (p.Arguments blocks) true r)))) (finished true r) l (op mark.Comma)
       (quiet_key true r (commanding true r (argument true r)) l (quiet_keyed (commanding true r (argument true r)) l k (op mark.Comma)) refl)
@@ -1155,38 +1156,38 @@ c_cargs_of false r blocks = (
 )
 
 pub c_arguments : (d r blocks : Bool) → Checks table (arguments d r blocks)
-unfolding table parameter_name bracketed_names more_parameters default_value no_default behind_name named_parameter bracketed_parameter rest_parameter block_parameter sign_parameter simple_parameters parameters block_parameters brace_parts do_parts body_behind def_name def_in_brackets def_plain def_value plain_call lambda_block empty_brackets full_brackets lambda_call called arrow_parameters plain_block arrow_value then_sign else_part branch otherwise if_value unless_value loop_body while_value until_value when_clause case_value class_header rescue_clause body_else body_ensure handlers begin_value module_body class_value module_value keyword_form newlines behind_newlines paren closed brace_block do_block block tail paren_tail keyword_value word_value integer_value text ivar_value gvar_value top_constant word_list embedded interpolated parenthesized array label_key pair_in_braces hash_value name_call constant_value super_value yield_value prim dot_part scope_part bracket post not_level power_level minus_level product_level sum_level shift_level comparison_level equal_level equality_level and_level or_level range_level ternary argument command_arguments command_part splat item more_items splat_list other_items one_value nested_value right_side jump_value jump command_level block_argument label_pair arrow_pair arguments_from arguments cargs more_pairs method_name not_expression expression alias_statement undef_statement simple modifier statement line statement_list
+unfolding table placed target star_target behind_target next_target more_targets starred_set several_set parameter_name bracketed_names more_parameters default_value no_default behind_name named_parameter bracketed_parameter rest_parameter block_parameter sign_parameter simple_parameters parameters block_parameters brace_parts do_parts body_behind def_name def_in_brackets def_plain def_value plain_call lambda_block empty_brackets full_brackets lambda_call called arrow_parameters plain_block arrow_value then_sign else_part branch otherwise if_value unless_value loop_body while_value until_value when_clause case_value class_header rescue_clause body_else body_ensure handlers begin_value module_body class_value module_value keyword_form newlines behind_newlines paren closed brace_block do_block block tail paren_tail keyword_value word_value integer_value text ivar_value gvar_value top_constant word_list embedded interpolated parenthesized array label_key pair_in_braces hash_value name_call constant_value super_value yield_value prim dot_part scope_part bracket post not_level power_level minus_level product_level sum_level shift_level comparison_level equal_level equality_level and_level or_level range_level ternary argument command_arguments command_part splat item more_items splat_list other_items one_value nested_value right_side jump_value jump command_level block_argument label_pair arrow_pair arguments_from arguments cargs more_pairs method_name not_expression expression alias_statement undef_statement simple modifier statement line statement_list
 c_arguments true r true = (refl, refl, c_block_argument true r, (λ x. omega arith, c_arguments_of true r true))
 c_arguments true r false = (λ x. omega arith, c_arguments_of true r false)
 c_arguments false r true = (refl, refl, c_block_argument false r, (λ x. omega arith, c_arguments_of false r true))
 c_arguments false r false = (λ x. omega arith, c_arguments_of false r false)
 
 pub c_cargs : (d r blocks : Bool) → Checks table (cargs d r blocks)
-unfolding table parameter_name bracketed_names more_parameters default_value no_default behind_name named_parameter bracketed_parameter rest_parameter block_parameter sign_parameter simple_parameters parameters block_parameters brace_parts do_parts body_behind def_name def_in_brackets def_plain def_value plain_call lambda_block empty_brackets full_brackets lambda_call called arrow_parameters plain_block arrow_value then_sign else_part branch otherwise if_value unless_value loop_body while_value until_value when_clause case_value class_header rescue_clause body_else body_ensure handlers begin_value module_body class_value module_value keyword_form newlines behind_newlines paren closed brace_block do_block block tail paren_tail keyword_value word_value integer_value text ivar_value gvar_value top_constant word_list embedded interpolated parenthesized array label_key pair_in_braces hash_value name_call constant_value super_value yield_value prim dot_part scope_part bracket post not_level power_level minus_level product_level sum_level shift_level comparison_level equal_level equality_level and_level or_level range_level ternary argument command_arguments command_part splat item more_items splat_list other_items one_value nested_value right_side jump_value jump command_level block_argument label_pair arrow_pair arguments_from arguments cargs more_pairs method_name not_expression expression alias_statement undef_statement simple modifier statement line statement_list
+unfolding table placed target star_target behind_target next_target more_targets starred_set several_set parameter_name bracketed_names more_parameters default_value no_default behind_name named_parameter bracketed_parameter rest_parameter block_parameter sign_parameter simple_parameters parameters block_parameters brace_parts do_parts body_behind def_name def_in_brackets def_plain def_value plain_call lambda_block empty_brackets full_brackets lambda_call called arrow_parameters plain_block arrow_value then_sign else_part branch otherwise if_value unless_value loop_body while_value until_value when_clause case_value class_header rescue_clause body_else body_ensure handlers begin_value module_body class_value module_value keyword_form newlines behind_newlines paren closed brace_block do_block block tail paren_tail keyword_value word_value integer_value text ivar_value gvar_value top_constant word_list embedded interpolated parenthesized array label_key pair_in_braces hash_value name_call constant_value super_value yield_value prim dot_part scope_part bracket post not_level power_level minus_level product_level sum_level shift_level comparison_level equal_level equality_level and_level or_level range_level ternary argument command_arguments command_part splat item more_items splat_list other_items one_value nested_value right_side jump_value jump command_level block_argument label_pair arrow_pair arguments_from arguments cargs more_pairs method_name not_expression expression alias_statement undef_statement simple modifier statement line statement_list
 c_cargs true r true = (refl, refl, c_block_argument true r, (λ x. omega arith, c_cargs_of true r true))
 c_cargs true r false = (λ x. omega arith, c_cargs_of true r false)
 c_cargs false r true = (refl, refl, c_block_argument false r, (λ x. omega arith, c_cargs_of false r true))
 c_cargs false r false = (λ x. omega arith, c_cargs_of false r false)
 
 pub c_pairs : (d r blocks : Bool) → Checks table (more_pairs d r blocks)
-unfolding table parameter_name bracketed_names more_parameters default_value no_default behind_name named_parameter bracketed_parameter rest_parameter block_parameter sign_parameter simple_parameters parameters block_parameters brace_parts do_parts body_behind def_name def_in_brackets def_plain def_value plain_call lambda_block empty_brackets full_brackets lambda_call called arrow_parameters plain_block arrow_value then_sign else_part branch otherwise if_value unless_value loop_body while_value until_value when_clause case_value class_header rescue_clause body_else body_ensure handlers begin_value module_body class_value module_value keyword_form newlines behind_newlines paren closed brace_block do_block block tail paren_tail keyword_value word_value integer_value text ivar_value gvar_value top_constant word_list embedded interpolated parenthesized array label_key pair_in_braces hash_value name_call constant_value super_value yield_value prim dot_part scope_part bracket post not_level power_level minus_level product_level sum_level shift_level comparison_level equal_level equality_level and_level or_level range_level ternary argument command_arguments command_part splat item more_items splat_list other_items one_value nested_value right_side jump_value jump command_level block_argument label_pair arrow_pair arguments_from arguments cargs more_pairs method_name not_expression expression alias_statement undef_statement simple modifier statement line statement_list
+unfolding table placed target star_target behind_target next_target more_targets starred_set several_set parameter_name bracketed_names more_parameters default_value no_default behind_name named_parameter bracketed_parameter rest_parameter block_parameter sign_parameter simple_parameters parameters block_parameters brace_parts do_parts body_behind def_name def_in_brackets def_plain def_value plain_call lambda_block empty_brackets full_brackets lambda_call called arrow_parameters plain_block arrow_value then_sign else_part branch otherwise if_value unless_value loop_body while_value until_value when_clause case_value class_header rescue_clause body_else body_ensure handlers begin_value module_body class_value module_value keyword_form newlines behind_newlines paren closed brace_block do_block block tail paren_tail keyword_value word_value integer_value text ivar_value gvar_value top_constant word_list embedded interpolated parenthesized array label_key pair_in_braces hash_value name_call constant_value super_value yield_value prim dot_part scope_part bracket post not_level power_level minus_level product_level sum_level shift_level comparison_level equal_level equality_level and_level or_level range_level ternary argument command_arguments command_part splat item more_items splat_list other_items one_value nested_value right_side jump_value jump command_level block_argument label_pair arrow_pair arguments_from arguments cargs more_pairs method_name not_expression expression alias_statement undef_statement simple modifier statement line statement_list
 c_pairs true r true = (refl, refl, c_block_argument true r, (inl refl, refl, refl, λ l x k. omega (arith, more_deep l x (pair_open l k)), (refl, refl, c_label true r, c_arrow true r), (λ x. omega arith, (refl, tt, (refl, refl, tt, tt)))))
 c_pairs true r false = (inl refl, refl, refl, λ l x k. omega (arith, more_deep l x (pair_open l k)), (refl, refl, c_label true r, c_arrow true r), (λ x. omega arith, (refl, tt, (refl, refl, tt, tt))))
 c_pairs false r true = (refl, refl, c_block_argument false r, (inl refl, refl, refl, λ l x k. omega (arith, more_deep l x (pair_open l k)), (refl, refl, c_label false r, c_arrow false r), (λ x. omega arith, (refl, tt, tt))))
 c_pairs false r false = (inl refl, refl, refl, λ l x k. omega (arith, more_deep l x (pair_open l k)), (refl, refl, c_label false r, c_arrow false r), (λ x. omega arith, (refl, tt, tt)))
 
 pub c_not_expression : (b r : Bool) → Checks table (not_expression b r)
-unfolding table parameter_name bracketed_names more_parameters default_value no_default behind_name named_parameter bracketed_parameter rest_parameter block_parameter sign_parameter simple_parameters parameters block_parameters brace_parts do_parts body_behind def_name def_in_brackets def_plain def_value plain_call lambda_block empty_brackets full_brackets lambda_call called arrow_parameters plain_block arrow_value then_sign else_part branch otherwise if_value unless_value loop_body while_value until_value when_clause case_value class_header rescue_clause body_else body_ensure handlers begin_value module_body class_value module_value keyword_form newlines behind_newlines paren closed brace_block do_block block tail paren_tail keyword_value word_value integer_value text ivar_value gvar_value top_constant word_list embedded interpolated parenthesized array label_key pair_in_braces hash_value name_call constant_value super_value yield_value prim dot_part scope_part bracket post not_level power_level minus_level product_level sum_level shift_level comparison_level equal_level equality_level and_level or_level range_level ternary argument command_arguments command_part splat item more_items splat_list other_items one_value nested_value right_side jump_value jump command_level block_argument label_pair arrow_pair arguments_from arguments cargs more_pairs method_name not_expression expression alias_statement undef_statement simple modifier statement line statement_list
+unfolding table placed target star_target behind_target next_target more_targets starred_set several_set parameter_name bracketed_names more_parameters default_value no_default behind_name named_parameter bracketed_parameter rest_parameter block_parameter sign_parameter simple_parameters parameters block_parameters brace_parts do_parts body_behind def_name def_in_brackets def_plain def_value plain_call lambda_block empty_brackets full_brackets lambda_call called arrow_parameters plain_block arrow_value then_sign else_part branch otherwise if_value unless_value loop_body while_value until_value when_clause case_value class_header rescue_clause body_else body_ensure handlers begin_value module_body class_value module_value keyword_form newlines behind_newlines paren closed brace_block do_block block tail paren_tail keyword_value word_value integer_value text ivar_value gvar_value top_constant word_list embedded interpolated parenthesized array label_key pair_in_braces hash_value name_call constant_value super_value yield_value prim dot_part scope_part bracket post not_level power_level minus_level product_level sum_level shift_level comparison_level equal_level equality_level and_level or_level range_level ternary argument command_arguments command_part splat item more_items splat_list other_items one_value nested_value right_side jump_value jump command_level block_argument label_pair arrow_pair arguments_from arguments cargs more_pairs method_name not_expression expression alias_statement undef_statement simple modifier statement line statement_list
 c_not_expression true r = (refl, refl, (λ x. omega (arith, d.depth_not x.1 (act.from_token x.0 x.1) (act.start x.0)), (refl, tt, tt)), c_command true r)
 c_not_expression false r = (refl, refl, (λ x. omega (arith, d.depth_not x.1 (act.from_token x.0 x.1) (act.start x.0)), (refl, tt, tt)), c_command false r)
 
 pub c_expression : (b r : Bool) → Checks table (expression b r)
-unfolding table parameter_name bracketed_names more_parameters default_value no_default behind_name named_parameter bracketed_parameter rest_parameter block_parameter sign_parameter simple_parameters parameters block_parameters brace_parts do_parts body_behind def_name def_in_brackets def_plain def_value plain_call lambda_block empty_brackets full_brackets lambda_call called arrow_parameters plain_block arrow_value then_sign else_part branch otherwise if_value unless_value loop_body while_value until_value when_clause case_value class_header rescue_clause body_else body_ensure handlers begin_value module_body class_value module_value keyword_form newlines behind_newlines paren closed brace_block do_block block tail paren_tail keyword_value word_value integer_value text ivar_value gvar_value top_constant word_list embedded interpolated parenthesized array label_key pair_in_braces hash_value name_call constant_value super_value yield_value prim dot_part scope_part bracket post not_level power_level minus_level product_level sum_level shift_level comparison_level equal_level equality_level and_level or_level range_level ternary argument command_arguments command_part splat item more_items splat_list other_items one_value nested_value right_side jump_value jump command_level block_argument label_pair arrow_pair arguments_from arguments cargs more_pairs method_name not_expression expression alias_statement undef_statement simple modifier statement line statement_list
+unfolding table placed target star_target behind_target next_target more_targets starred_set several_set parameter_name bracketed_names more_parameters default_value no_default behind_name named_parameter bracketed_parameter rest_parameter block_parameter sign_parameter simple_parameters parameters block_parameters brace_parts do_parts body_behind def_name def_in_brackets def_plain def_value plain_call lambda_block empty_brackets full_brackets lambda_call called arrow_parameters plain_block arrow_value then_sign else_part branch otherwise if_value unless_value loop_body while_value until_value when_clause case_value class_header rescue_clause body_else body_ensure handlers begin_value module_body class_value module_value keyword_form newlines behind_newlines paren closed brace_block do_block block tail paren_tail keyword_value word_value integer_value text ivar_value gvar_value top_constant word_list embedded interpolated parenthesized array label_key pair_in_braces hash_value name_call constant_value super_value yield_value prim dot_part scope_part bracket post not_level power_level minus_level product_level sum_level shift_level comparison_level equal_level equality_level and_level or_level range_level ternary argument command_arguments command_part splat item more_items splat_list other_items one_value nested_value right_side jump_value jump command_level block_argument label_pair arrow_pair arguments_from arguments cargs more_pairs method_name not_expression expression alias_statement undef_statement simple modifier statement line statement_list
 c_expression true r = (refl, refl, refl, refl, λ l x. omega (arith, joined_deep l x), c_not_expression true r, (refl, tt, tt))
 c_expression false r = (refl, refl, refl, refl, λ l x. omega (arith, joined_deep l x), c_not_expression false r, (refl, tt, tt))
 
 c_alias : (r : Bool) → Checks table (alias_statement r)
-unfolding table parameter_name bracketed_names more_parameters default_value no_default behind_name named_parameter bracketed_parameter rest_parameter block_parameter sign_parameter simple_parameters parameters block_parameters brace_parts do_parts body_behind def_name def_in_brackets def_plain def_value plain_call lambda_block empty_brackets full_brackets lambda_call called arrow_parameters plain_block arrow_value then_sign else_part branch otherwise if_value unless_value loop_body while_value until_value when_clause case_value class_header rescue_clause body_else body_ensure handlers begin_value module_body class_value module_value keyword_form newlines behind_newlines paren closed brace_block do_block block tail paren_tail keyword_value word_value integer_value text ivar_value gvar_value top_constant word_list embedded interpolated parenthesized array label_key pair_in_braces hash_value name_call constant_value super_value yield_value prim dot_part scope_part bracket post not_level power_level minus_level product_level sum_level shift_level comparison_level equal_level equality_level and_level or_level range_level ternary argument command_arguments command_part splat item more_items splat_list other_items one_value nested_value right_side jump_value jump command_level block_argument label_pair arrow_pair arguments_from arguments cargs more_pairs method_name not_expression expression alias_statement undef_statement simple modifier statement line statement_list
+unfolding table placed target star_target behind_target next_target more_targets starred_set several_set parameter_name bracketed_names more_parameters default_value no_default behind_name named_parameter bracketed_parameter rest_parameter block_parameter sign_parameter simple_parameters parameters block_parameters brace_parts do_parts body_behind def_name def_in_brackets def_plain def_value plain_call lambda_block empty_brackets full_brackets lambda_call called arrow_parameters plain_block arrow_value then_sign else_part branch otherwise if_value unless_value loop_body while_value until_value when_clause case_value class_header rescue_clause body_else body_ensure handlers begin_value module_body class_value module_value keyword_form newlines behind_newlines paren closed brace_block do_block block tail paren_tail keyword_value word_value integer_value text ivar_value gvar_value top_constant word_list embedded interpolated parenthesized array label_key pair_in_braces hash_value name_call constant_value super_value yield_value prim dot_part scope_part bracket post not_level power_level minus_level product_level sum_level shift_level comparison_level equal_level equality_level and_level or_level range_level ternary argument command_arguments command_part splat item more_items splat_list other_items one_value nested_value right_side jump_value jump command_level block_argument label_pair arrow_pair arguments_from arguments cargs more_pairs method_name not_expression expression alias_statement undef_statement simple modifier statement line statement_list
 c_alias r = (λ x. omega (arith, d.depth_alias (act.full_name (x.1.0)) (act.full_name (x.1.1)) (act.to_end (act.span_of x.0) (act.name_span (x.1.1))) (act.start (x.1.0.0)), flat_option (x.1.0.1), flat_option (x.1.1.1)), (refl, tt, (refl, c_method, c_method)))
 
 flat_names : (xs : List (Seen × Option Seen)) → deepest (λ x. max 0 (deep_if (λ y. 0) x.1)) xs ≡ 0
@@ -1194,25 +1195,102 @@ flat_names [] = refl
 flat_names (x ∷ xs) = omega (arith, flat_option x.1, flat_names xs)
 
 c_undef : (r : Bool) → Checks table (undef_statement r)
-unfolding table parameter_name bracketed_names more_parameters default_value no_default behind_name named_parameter bracketed_parameter rest_parameter block_parameter sign_parameter simple_parameters parameters block_parameters brace_parts do_parts body_behind def_name def_in_brackets def_plain def_value plain_call lambda_block empty_brackets full_brackets lambda_call called arrow_parameters plain_block arrow_value then_sign else_part branch otherwise if_value unless_value loop_body while_value until_value when_clause case_value class_header rescue_clause body_else body_ensure handlers begin_value module_body class_value module_value keyword_form newlines behind_newlines paren closed brace_block do_block block tail paren_tail keyword_value word_value integer_value text ivar_value gvar_value top_constant word_list embedded interpolated parenthesized array label_key pair_in_braces hash_value name_call constant_value super_value yield_value prim dot_part scope_part bracket post not_level power_level minus_level product_level sum_level shift_level comparison_level equal_level equality_level and_level or_level range_level ternary argument command_arguments command_part splat item more_items splat_list other_items one_value nested_value right_side jump_value jump command_level block_argument label_pair arrow_pair arguments_from arguments cargs more_pairs method_name not_expression expression alias_statement undef_statement simple modifier statement line statement_list
+unfolding table placed target star_target behind_target next_target more_targets starred_set several_set parameter_name bracketed_names more_parameters default_value no_default behind_name named_parameter bracketed_parameter rest_parameter block_parameter sign_parameter simple_parameters parameters block_parameters brace_parts do_parts body_behind def_name def_in_brackets def_plain def_value plain_call lambda_block empty_brackets full_brackets lambda_call called arrow_parameters plain_block arrow_value then_sign else_part branch otherwise if_value unless_value loop_body while_value until_value when_clause case_value class_header rescue_clause body_else body_ensure handlers begin_value module_body class_value module_value keyword_form newlines behind_newlines paren closed brace_block do_block block tail paren_tail keyword_value word_value integer_value text ivar_value gvar_value top_constant word_list embedded interpolated parenthesized array label_key pair_in_braces hash_value name_call constant_value super_value yield_value prim dot_part scope_part bracket post not_level power_level minus_level product_level sum_level shift_level comparison_level equal_level equality_level and_level or_level range_level ternary argument command_arguments command_part splat item more_items splat_list other_items one_value nested_value right_side jump_value jump command_level block_argument label_pair arrow_pair arguments_from arguments cargs more_pairs method_name not_expression expression alias_statement undef_statement simple modifier statement line statement_list
 c_undef r = (λ x. omega (arith, d.depth_undef (act.full_names x.1) (act.to_end (act.span_of x.0) (act.names_span (act.span_of x.0) x.1)) (act.start x.0), flat_names x.1), (refl, tt, (λ x. refl, (refl, c_method, (refl, refl, (λ x. omega arith, (refl, tt, c_method)))))))
 
+-- ---- several targets
+
+c_placed : (r c : Bool) → Included table (first table (placed r c)) (λ n. false) × Included table (continues table (placed r c)) (λ n. false) × (nullable table (placed r c) ≡ true → true ≡ true) × Checks table (placed r c)
+unfolding table placed target star_target behind_target next_target more_targets starred_set several_set parameter_name bracketed_names more_parameters default_value no_default behind_name named_parameter bracketed_parameter rest_parameter block_parameter sign_parameter simple_parameters parameters block_parameters brace_parts do_parts body_behind def_name def_in_brackets def_plain def_value plain_call lambda_block empty_brackets full_brackets lambda_call called arrow_parameters plain_block arrow_value then_sign else_part branch otherwise if_value unless_value loop_body while_value until_value when_clause case_value class_header rescue_clause body_else body_ensure handlers begin_value module_body class_value module_value keyword_form newlines behind_newlines paren closed brace_block do_block block tail paren_tail keyword_value word_value integer_value text ivar_value gvar_value top_constant word_list embedded interpolated parenthesized array label_key pair_in_braces hash_value name_call constant_value super_value yield_value prim dot_part scope_part bracket post not_level power_level minus_level product_level sum_level shift_level comparison_level equal_level equality_level and_level or_level range_level ternary argument command_arguments command_part splat item more_items splat_list other_items one_value nested_value right_side jump_value jump command_level block_argument label_pair arrow_pair arguments_from arguments cargs more_pairs method_name not_expression expression alias_statement undef_statement simple modifier statement line statement_list
+c_placed r true = (refl, refl, (λ h. refl), tt)
+c_placed r false = (refl, refl, (λ h. refl), (λ x. refl, tt))
+
+c_target : (r : Bool) → Checks table (target r)
+unfolding table placed target star_target behind_target next_target more_targets starred_set several_set parameter_name bracketed_names more_parameters default_value no_default behind_name named_parameter bracketed_parameter rest_parameter block_parameter sign_parameter simple_parameters parameters block_parameters brace_parts do_parts body_behind def_name def_in_brackets def_plain def_value plain_call lambda_block empty_brackets full_brackets lambda_call called arrow_parameters plain_block arrow_value then_sign else_part branch otherwise if_value unless_value loop_body while_value until_value when_clause case_value class_header rescue_clause body_else body_ensure handlers begin_value module_body class_value module_value keyword_form newlines behind_newlines paren closed brace_block do_block block tail paren_tail keyword_value word_value integer_value text ivar_value gvar_value top_constant word_list embedded interpolated parenthesized array label_key pair_in_braces hash_value name_call constant_value super_value yield_value prim dot_part scope_part bracket post not_level power_level minus_level product_level sum_level shift_level comparison_level equal_level equality_level and_level or_level range_level ternary argument command_arguments command_part splat item more_items splat_list other_items one_value nested_value right_side jump_value jump command_level block_argument label_pair arrow_pair arguments_from arguments cargs more_pairs method_name not_expression expression alias_statement undef_statement simple modifier statement line statement_list
+c_target r = (λ x. omega (arith, target_deep x.0), (refl, c_post true r, λ l. c_placed r (act.is_place l)))
+
+c_star : (r : Bool) → Checks table (star_target r)
+unfolding table placed target star_target behind_target next_target more_targets starred_set several_set parameter_name bracketed_names more_parameters default_value no_default behind_name named_parameter bracketed_parameter rest_parameter block_parameter sign_parameter simple_parameters parameters block_parameters brace_parts do_parts body_behind def_name def_in_brackets def_plain def_value plain_call lambda_block empty_brackets full_brackets lambda_call called arrow_parameters plain_block arrow_value then_sign else_part branch otherwise if_value unless_value loop_body while_value until_value when_clause case_value class_header rescue_clause body_else body_ensure handlers begin_value module_body class_value module_value keyword_form newlines behind_newlines paren closed brace_block do_block block tail paren_tail keyword_value word_value integer_value text ivar_value gvar_value top_constant word_list embedded interpolated parenthesized array label_key pair_in_braces hash_value name_call constant_value super_value yield_value prim dot_part scope_part bracket post not_level power_level minus_level product_level sum_level shift_level comparison_level equal_level equality_level and_level or_level range_level ternary argument command_arguments command_part splat item more_items splat_list other_items one_value nested_value right_side jump_value jump command_level block_argument label_pair arrow_pair arguments_from arguments cargs more_pairs method_name not_expression expression alias_statement undef_statement simple modifier statement line statement_list
+c_star r = (λ x. omega (arith, d.depth_splat x.1 (act.from_token x.0 x.1) (act.start x.0)), (refl, tt, c_target r))
+
+c_behind_target : (r starred : Bool) → Checks table (behind_target r starred)
+unfolding table placed target star_target behind_target next_target more_targets starred_set several_set parameter_name bracketed_names more_parameters default_value no_default behind_name named_parameter bracketed_parameter rest_parameter block_parameter sign_parameter simple_parameters parameters block_parameters brace_parts do_parts body_behind def_name def_in_brackets def_plain def_value plain_call lambda_block empty_brackets full_brackets lambda_call called arrow_parameters plain_block arrow_value then_sign else_part branch otherwise if_value unless_value loop_body while_value until_value when_clause case_value class_header rescue_clause body_else body_ensure handlers begin_value module_body class_value module_value keyword_form newlines behind_newlines paren closed brace_block do_block block tail paren_tail keyword_value word_value integer_value text ivar_value gvar_value top_constant word_list embedded interpolated parenthesized array label_key pair_in_braces hash_value name_call constant_value super_value yield_value prim dot_part scope_part bracket post not_level power_level minus_level product_level sum_level shift_level comparison_level equal_level equality_level and_level or_level range_level ternary argument command_arguments command_part splat item more_items splat_list other_items one_value nested_value right_side jump_value jump command_level block_argument label_pair arrow_pair arguments_from arguments cargs more_pairs method_name not_expression expression alias_statement undef_statement simple modifier statement line statement_list
+c_behind_target r starred = (refl, refl, tt, (λ x. omega arith, (λ x. omega arith, (refl, tt, tt))))
+
+c_next_target : (r starred : Bool) → Checks table (next_target r starred)
+unfolding table placed target star_target behind_target next_target more_targets starred_set several_set parameter_name bracketed_names more_parameters default_value no_default behind_name named_parameter bracketed_parameter rest_parameter block_parameter sign_parameter simple_parameters parameters block_parameters brace_parts do_parts body_behind def_name def_in_brackets def_plain def_value plain_call lambda_block empty_brackets full_brackets lambda_call called arrow_parameters plain_block arrow_value then_sign else_part branch otherwise if_value unless_value loop_body while_value until_value when_clause case_value class_header rescue_clause body_else body_ensure handlers begin_value module_body class_value module_value keyword_form newlines behind_newlines paren closed brace_block do_block block tail paren_tail keyword_value word_value integer_value text ivar_value gvar_value top_constant word_list embedded interpolated parenthesized array label_key pair_in_braces hash_value name_call constant_value super_value yield_value prim dot_part scope_part bracket post not_level power_level minus_level product_level sum_level shift_level comparison_level equal_level equality_level and_level or_level range_level ternary argument command_arguments command_part splat item more_items splat_list other_items one_value nested_value right_side jump_value jump command_level block_argument label_pair arrow_pair arguments_from arguments cargs more_pairs method_name not_expression expression alias_statement undef_statement simple modifier statement line statement_list
+c_next_target r true = (refl, refl, (refl, c_star r, c_behind_target r false), (refl, c_target r, c_behind_target r true))
+c_next_target r false = (refl, c_target r, c_behind_target r false)
+
+pub c_targets : (r starred : Bool) → Checks table (more_targets r starred)
+unfolding table placed target star_target behind_target next_target more_targets starred_set several_set parameter_name bracketed_names more_parameters default_value no_default behind_name named_parameter bracketed_parameter rest_parameter block_parameter sign_parameter simple_parameters parameters block_parameters brace_parts do_parts body_behind def_name def_in_brackets def_plain def_value plain_call lambda_block empty_brackets full_brackets lambda_call called arrow_parameters plain_block arrow_value then_sign else_part branch otherwise if_value unless_value loop_body while_value until_value when_clause case_value class_header rescue_clause body_else body_ensure handlers begin_value module_body class_value module_value keyword_form newlines behind_newlines paren closed brace_block do_block block tail paren_tail keyword_value word_value integer_value text ivar_value gvar_value top_constant word_list embedded interpolated parenthesized array label_key pair_in_braces hash_value name_call constant_value super_value yield_value prim dot_part scope_part bracket post not_level power_level minus_level product_level sum_level shift_level comparison_level equal_level equality_level and_level or_level range_level ternary argument command_arguments command_part splat item more_items splat_list other_items one_value nested_value right_side jump_value jump command_level block_argument label_pair arrow_pair arguments_from arguments cargs more_pairs method_name not_expression expression alias_statement undef_statement simple modifier statement line statement_list
+c_targets r true = (λ x. omega arith, (refl, tt, (λ x. omega arith, c_next_target r true)))
+c_targets r false = (λ x. omega arith, (refl, tt, (λ x. omega arith, c_next_target r false)))
+
+several_deep : (first : Node) (x : List Node × Node) → depth_of (act.multi_set first x) ≡ suc (max (depth_of first) (max (deepest depth_of x.0) (depth_of x.1)))
+several_deep first x = omega (arith, d.depth_multi_set (first ∷ x.0) x.1 (act.nodes first x.1) (first.span).from)
+
+c_starred_set : (r : Bool) → Checks table (starred_set r)
+unfolding table placed target star_target behind_target next_target more_targets starred_set several_set parameter_name bracketed_names more_parameters default_value no_default behind_name named_parameter bracketed_parameter rest_parameter block_parameter sign_parameter simple_parameters parameters block_parameters brace_parts do_parts body_behind def_name def_in_brackets def_plain def_value plain_call lambda_block empty_brackets full_brackets lambda_call called arrow_parameters plain_block arrow_value then_sign else_part branch otherwise if_value unless_value loop_body while_value until_value when_clause case_value class_header rescue_clause body_else body_ensure handlers begin_value module_body class_value module_value keyword_form newlines behind_newlines paren closed brace_block do_block block tail paren_tail keyword_value word_value integer_value text ivar_value gvar_value top_constant word_list embedded interpolated parenthesized array label_key pair_in_braces hash_value name_call constant_value super_value yield_value prim dot_part scope_part bracket post not_level power_level minus_level product_level sum_level shift_level comparison_level equal_level equality_level and_level or_level range_level ternary argument command_arguments command_part splat item more_items splat_list other_items one_value nested_value right_side jump_value jump command_level block_argument label_pair arrow_pair arguments_from arguments cargs more_pairs method_name not_expression expression alias_statement undef_statement simple modifier statement line statement_list
+c_starred_set r = (λ x. omega (arith, several_deep x.0 x.1), (refl, c_star r, tt))
+
+-- no comma goes on behind a value that can be set
+other_no_place : (l : Node × ℕ) (n : Node) → l ≡ (n, act.other) → act.is_place l ≡ true → ⊥
+other_no_place l n e h = true≢false (sym (subst (λ z. act.is_place z ≡ true) e h))
+
+ended_no_place : (l : Node × ℕ) (n : Node) (m : ℕ) → l ≡ (n, act.ended m) → act.is_place l ≡ true → ⊥
+ended_no_place l n m e h = by (nat_eq m act.commanded) (subst (λ z. act.is_place z ≡ true) e h)
+  where
+    by : (c : Bool) → act.is_place (n, if c then act.commanded else act.other) ≡ true → ⊥
+    by true h = true≢false (sym h)
+    by false h = true≢false (sym h)
+
+quiet_made : (s r : Sort) (q : R s) (f : El Seen Node s → El Seen Node r) (l : El Seen Node r) (c : ℕ → Bool) → ((x : El Seen Node s) → l ≡ f x → ⊥) → Quiet (node f q) l c
+unfolding Quiet
+quiet_made s r q f l c fresh t less (x, e, g) j = fresh x e
+
+quiet_suffixes : {s r : Sort} (levels : ℕ) (q : R s) (p : R r) (f : El Seen Node s → El Seen Node r → El Seen Node s) (l : El Seen Node s) (c : ℕ → Bool)
+    → Quiet q l c → Disjoint table (first table p) c → ((m : El Seen Node s) (y : El Seen Node r) → l ≡ f m y → ⊥) → Quiet (suffixes levels q p f) l c
+unfolding Quiet
+quiet_suffixes levels q p f l c base apart made t less (inl g) j = base t less g j
+quiet_suffixes levels q p f l c base apart made t less (inr (inl (m, y, e, g))) j = made m y e
+quiet_suffixes levels q p f l c base apart made t less (inr (inr h)) j = no_class (first table p) c apart t less h j
+
+quiet_target : (r : Bool) (l : Node × ℕ) → act.is_place l ≡ true → Quiet (expression true r) l (op mark.Comma)
+unfolding table placed target star_target behind_target next_target more_targets starred_set several_set parameter_name bracketed_names more_parameters default_value no_default behind_name named_parameter bracketed_parameter rest_parameter block_parameter sign_parameter simple_parameters parameters block_parameters brace_parts do_parts body_behind def_name def_in_brackets def_plain def_value plain_call lambda_block empty_brackets full_brackets lambda_call called arrow_parameters plain_block arrow_value then_sign else_part branch otherwise if_value unless_value loop_body while_value until_value when_clause case_value class_header rescue_clause body_else body_ensure handlers begin_value module_body class_value module_value keyword_form newlines behind_newlines paren closed brace_block do_block block tail paren_tail keyword_value word_value integer_value text ivar_value gvar_value top_constant word_list embedded interpolated parenthesized array label_key pair_in_braces hash_value name_call constant_value super_value yield_value prim dot_part scope_part bracket post not_level power_level minus_level product_level sum_level shift_level comparison_level equal_level equality_level and_level or_level range_level ternary argument command_arguments command_part splat item more_items splat_list other_items one_value nested_value right_side jump_value jump command_level block_argument label_pair arrow_pair arguments_from arguments cargs more_pairs method_name not_expression expression alias_statement undef_statement simple modifier statement line statement_list
+quiet_target r l k =
+    quiet_suffixes 1 (not_expression true r) _ act.joined l (op mark.Comma)
+    (quiet_choice _ (command_level true r) l (op mark.Comma) refl (quiet_made _ (marked tree) _ _ l (op mark.Comma) (λ x e. other_no_place l _ e k))
+    (quiet_choice (jump true r) _ l (op mark.Comma) refl (quiet_made _ (marked tree) _ _ l (op mark.Comma) (λ x e. other_no_place l _ e k))
+    (quiet_suffix 0 _ act.yields _ act.yield_command l (op mark.Comma)
+    (quiet_suffix 0 _ (λ l. is_some (act.callee l)) _ act.command_node l (op mark.Comma)
+    (quiet_assignment true r (plain (named (part p.RightSide true r))) (named (part p.OneValue true r)) l (op mark.Comma) (quiet_class (ternary true r) l (op mark.Comma) refl) refl refl (λ n m e. ended_no_place l n m e k))
+    (λ t less x y z. no_class (first table (command_part true r)) (op mark.Comma) refl t less y z)
+    (λ m y t less e g j. ended_no_place l _ act.commanded e k))
+    (λ t less x y z. no_class (first table (command_arguments true r false)) (op mark.Comma) refl t less y z)
+    (λ m y t less e g j. ended_no_place l _ act.commanded e k))))
+    refl (λ m y e. other_no_place l _ e k)
+
+c_several_set : (r : Bool) → Checks table (several_set r)
+unfolding Quiet table placed target star_target behind_target next_target more_targets starred_set several_set parameter_name bracketed_names more_parameters default_value no_default behind_name named_parameter bracketed_parameter rest_parameter block_parameter sign_parameter simple_parameters parameters block_parameters brace_parts do_parts body_behind def_name def_in_brackets def_plain def_value plain_call lambda_block empty_brackets full_brackets lambda_call called arrow_parameters plain_block arrow_value then_sign else_part branch otherwise if_value unless_value loop_body while_value until_value when_clause case_value class_header rescue_clause body_else body_ensure handlers begin_value module_body class_value module_value keyword_form newlines behind_newlines paren closed brace_block do_block block tail paren_tail keyword_value word_value integer_value text ivar_value gvar_value top_constant word_list embedded interpolated parenthesized array label_key pair_in_braces hash_value name_call constant_value super_value yield_value prim dot_part scope_part bracket post not_level power_level minus_level product_level sum_level shift_level comparison_level equal_level equality_level and_level or_level range_level ternary argument command_arguments command_part splat item more_items splat_list other_items one_value nested_value right_side jump_value jump command_level block_argument label_pair arrow_pair arguments_from arguments cargs more_pairs method_name not_expression expression alias_statement undef_statement simple modifier statement line statement_list
+c_several_set r = (inr (λ l t less k g h. quiet_target r l k t less g h), refl, refl, (λ l x k. omega (arith, several_deep (act.target_node l) x, target_deep l)), c_expression true r, tt)
+
 c_simple : (r : Bool) → Checks table (simple r)
-unfolding table parameter_name bracketed_names more_parameters default_value no_default behind_name named_parameter bracketed_parameter rest_parameter block_parameter sign_parameter simple_parameters parameters block_parameters brace_parts do_parts body_behind def_name def_in_brackets def_plain def_value plain_call lambda_block empty_brackets full_brackets lambda_call called arrow_parameters plain_block arrow_value then_sign else_part branch otherwise if_value unless_value loop_body while_value until_value when_clause case_value class_header rescue_clause body_else body_ensure handlers begin_value module_body class_value module_value keyword_form newlines behind_newlines paren closed brace_block do_block block tail paren_tail keyword_value word_value integer_value text ivar_value gvar_value top_constant word_list embedded interpolated parenthesized array label_key pair_in_braces hash_value name_call constant_value super_value yield_value prim dot_part scope_part bracket post not_level power_level minus_level product_level sum_level shift_level comparison_level equal_level equality_level and_level or_level range_level ternary argument command_arguments command_part splat item more_items splat_list other_items one_value nested_value right_side jump_value jump command_level block_argument label_pair arrow_pair arguments_from arguments cargs more_pairs method_name not_expression expression alias_statement undef_statement simple modifier statement line statement_list
-c_simple r = (refl, refl, c_alias r, (refl, refl, c_undef r, c_expression true r))
+unfolding table placed target star_target behind_target next_target more_targets starred_set several_set parameter_name bracketed_names more_parameters default_value no_default behind_name named_parameter bracketed_parameter rest_parameter block_parameter sign_parameter simple_parameters parameters block_parameters brace_parts do_parts body_behind def_name def_in_brackets def_plain def_value plain_call lambda_block empty_brackets full_brackets lambda_call called arrow_parameters plain_block arrow_value then_sign else_part branch otherwise if_value unless_value loop_body while_value until_value when_clause case_value class_header rescue_clause body_else body_ensure handlers begin_value module_body class_value module_value keyword_form newlines behind_newlines paren closed brace_block do_block block tail paren_tail keyword_value word_value integer_value text ivar_value gvar_value top_constant word_list embedded interpolated parenthesized array label_key pair_in_braces hash_value name_call constant_value super_value yield_value prim dot_part scope_part bracket post not_level power_level minus_level product_level sum_level shift_level comparison_level equal_level equality_level and_level or_level range_level ternary argument command_arguments command_part splat item more_items splat_list other_items one_value nested_value right_side jump_value jump command_level block_argument label_pair arrow_pair arguments_from arguments cargs more_pairs method_name not_expression expression alias_statement undef_statement simple modifier statement line statement_list
+c_simple r = (refl, refl, c_alias r, (refl, refl, c_undef r, (refl, refl, c_starred_set r, c_several_set r)))
 
 c_modifier : (r : Bool) → Checks table (modifier r)
-unfolding table parameter_name bracketed_names more_parameters default_value no_default behind_name named_parameter bracketed_parameter rest_parameter block_parameter sign_parameter simple_parameters parameters block_parameters brace_parts do_parts body_behind def_name def_in_brackets def_plain def_value plain_call lambda_block empty_brackets full_brackets lambda_call called arrow_parameters plain_block arrow_value then_sign else_part branch otherwise if_value unless_value loop_body while_value until_value when_clause case_value class_header rescue_clause body_else body_ensure handlers begin_value module_body class_value module_value keyword_form newlines behind_newlines paren closed brace_block do_block block tail paren_tail keyword_value word_value integer_value text ivar_value gvar_value top_constant word_list embedded interpolated parenthesized array label_key pair_in_braces hash_value name_call constant_value super_value yield_value prim dot_part scope_part bracket post not_level power_level minus_level product_level sum_level shift_level comparison_level equal_level equality_level and_level or_level range_level ternary argument command_arguments command_part splat item more_items splat_list other_items one_value nested_value right_side jump_value jump command_level block_argument label_pair arrow_pair arguments_from arguments cargs more_pairs method_name not_expression expression alias_statement undef_statement simple modifier statement line statement_list
+unfolding table placed target star_target behind_target next_target more_targets starred_set several_set parameter_name bracketed_names more_parameters default_value no_default behind_name named_parameter bracketed_parameter rest_parameter block_parameter sign_parameter simple_parameters parameters block_parameters brace_parts do_parts body_behind def_name def_in_brackets def_plain def_value plain_call lambda_block empty_brackets full_brackets lambda_call called arrow_parameters plain_block arrow_value then_sign else_part branch otherwise if_value unless_value loop_body while_value until_value when_clause case_value class_header rescue_clause body_else body_ensure handlers begin_value module_body class_value module_value keyword_form newlines behind_newlines paren closed brace_block do_block block tail paren_tail keyword_value word_value integer_value text ivar_value gvar_value top_constant word_list embedded interpolated parenthesized array label_key pair_in_braces hash_value name_call constant_value super_value yield_value prim dot_part scope_part bracket post not_level power_level minus_level product_level sum_level shift_level comparison_level equal_level equality_level and_level or_level range_level ternary argument command_arguments command_part splat item more_items splat_list other_items one_value nested_value right_side jump_value jump command_level block_argument label_pair arrow_pair arguments_from arguments cargs more_pairs method_name not_expression expression alias_statement undef_statement simple modifier statement line statement_list
 c_modifier r = (refl, refl, (λ x. refl, (refl, tt, tt)), (refl, refl, (λ x. refl, (refl, tt, tt)), (refl, refl, (λ x. refl, (refl, tt, tt)), (λ x. refl, (inl (λ x. omega arith), (λ x. until_deep x, (refl, tt, tt)))))))
 
 pub c_statement : (r : Bool) → Checks table (statement r)
-unfolding table parameter_name bracketed_names more_parameters default_value no_default behind_name named_parameter bracketed_parameter rest_parameter block_parameter sign_parameter simple_parameters parameters block_parameters brace_parts do_parts body_behind def_name def_in_brackets def_plain def_value plain_call lambda_block empty_brackets full_brackets lambda_call called arrow_parameters plain_block arrow_value then_sign else_part branch otherwise if_value unless_value loop_body while_value until_value when_clause case_value class_header rescue_clause body_else body_ensure handlers begin_value module_body class_value module_value keyword_form newlines behind_newlines paren closed brace_block do_block block tail paren_tail keyword_value word_value integer_value text ivar_value gvar_value top_constant word_list embedded interpolated parenthesized array label_key pair_in_braces hash_value name_call constant_value super_value yield_value prim dot_part scope_part bracket post not_level power_level minus_level product_level sum_level shift_level comparison_level equal_level equality_level and_level or_level range_level ternary argument command_arguments command_part splat item more_items splat_list other_items one_value nested_value right_side jump_value jump command_level block_argument label_pair arrow_pair arguments_from arguments cargs more_pairs method_name not_expression expression alias_statement undef_statement simple modifier statement line statement_list
+unfolding table placed target star_target behind_target next_target more_targets starred_set several_set parameter_name bracketed_names more_parameters default_value no_default behind_name named_parameter bracketed_parameter rest_parameter block_parameter sign_parameter simple_parameters parameters block_parameters brace_parts do_parts body_behind def_name def_in_brackets def_plain def_value plain_call lambda_block empty_brackets full_brackets lambda_call called arrow_parameters plain_block arrow_value then_sign else_part branch otherwise if_value unless_value loop_body while_value until_value when_clause case_value class_header rescue_clause body_else body_ensure handlers begin_value module_body class_value module_value keyword_form newlines behind_newlines paren closed brace_block do_block block tail paren_tail keyword_value word_value integer_value text ivar_value gvar_value top_constant word_list embedded interpolated parenthesized array label_key pair_in_braces hash_value name_call constant_value super_value yield_value prim dot_part scope_part bracket post not_level power_level minus_level product_level sum_level shift_level comparison_level equal_level equality_level and_level or_level range_level ternary argument command_arguments command_part splat item more_items splat_list other_items one_value nested_value right_side jump_value jump command_level block_argument label_pair arrow_pair arguments_from arguments cargs more_pairs method_name not_expression expression alias_statement undef_statement simple modifier statement line statement_list
 c_statement r = (refl, refl, refl, refl, λ l x. omega (arith, modified_deep l x), c_simple r, c_modifier r)
 
 c_line : (r : Bool) → Checks table (line r)
-unfolding table parameter_name bracketed_names more_parameters default_value no_default behind_name named_parameter bracketed_parameter rest_parameter block_parameter sign_parameter simple_parameters parameters block_parameters brace_parts do_parts body_behind def_name def_in_brackets def_plain def_value plain_call lambda_block empty_brackets full_brackets lambda_call called arrow_parameters plain_block arrow_value then_sign else_part branch otherwise if_value unless_value loop_body while_value until_value when_clause case_value class_header rescue_clause body_else body_ensure handlers begin_value module_body class_value module_value keyword_form newlines behind_newlines paren closed brace_block do_block block tail paren_tail keyword_value word_value integer_value text ivar_value gvar_value top_constant word_list embedded interpolated parenthesized array label_key pair_in_braces hash_value name_call constant_value super_value yield_value prim dot_part scope_part bracket post not_level power_level minus_level product_level sum_level shift_level comparison_level equal_level equality_level and_level or_level range_level ternary argument command_arguments command_part splat item more_items splat_list other_items one_value nested_value right_side jump_value jump command_level block_argument label_pair arrow_pair arguments_from arguments cargs more_pairs method_name not_expression expression alias_statement undef_statement simple modifier statement line statement_list
+unfolding table placed target star_target behind_target next_target more_targets starred_set several_set parameter_name bracketed_names more_parameters default_value no_default behind_name named_parameter bracketed_parameter rest_parameter block_parameter sign_parameter simple_parameters parameters block_parameters brace_parts do_parts body_behind def_name def_in_brackets def_plain def_value plain_call lambda_block empty_brackets full_brackets lambda_call called arrow_parameters plain_block arrow_value then_sign else_part branch otherwise if_value unless_value loop_body while_value until_value when_clause case_value class_header rescue_clause body_else body_ensure handlers begin_value module_body class_value module_value keyword_form newlines behind_newlines paren closed brace_block do_block block tail paren_tail keyword_value word_value integer_value text ivar_value gvar_value top_constant word_list embedded interpolated parenthesized array label_key pair_in_braces hash_value name_call constant_value super_value yield_value prim dot_part scope_part bracket post not_level power_level minus_level product_level sum_level shift_level comparison_level equal_level equality_level and_level or_level range_level ternary argument command_arguments command_part splat item more_items splat_list other_items one_value nested_value right_side jump_value jump command_level block_argument label_pair arrow_pair arguments_from arguments cargs more_pairs method_name not_expression expression alias_statement undef_statement simple modifier statement line statement_list
 c_line r = (refl, refl, (λ x. refl, tt), tt)
 
 pub c_statements : (r : Bool) → Checks table (statement_list r)
-unfolding table parameter_name bracketed_names more_parameters default_value no_default behind_name named_parameter bracketed_parameter rest_parameter block_parameter sign_parameter simple_parameters parameters block_parameters brace_parts do_parts body_behind def_name def_in_brackets def_plain def_value plain_call lambda_block empty_brackets full_brackets lambda_call called arrow_parameters plain_block arrow_value then_sign else_part branch otherwise if_value unless_value loop_body while_value until_value when_clause case_value class_header rescue_clause body_else body_ensure handlers begin_value module_body class_value module_value keyword_form newlines behind_newlines paren closed brace_block do_block block tail paren_tail keyword_value word_value integer_value text ivar_value gvar_value top_constant word_list embedded interpolated parenthesized array label_key pair_in_braces hash_value name_call constant_value super_value yield_value prim dot_part scope_part bracket post not_level power_level minus_level product_level sum_level shift_level comparison_level equal_level equality_level and_level or_level range_level ternary argument command_arguments command_part splat item more_items splat_list other_items one_value nested_value right_side jump_value jump command_level block_argument label_pair arrow_pair arguments_from arguments cargs more_pairs method_name not_expression expression alias_statement undef_statement simple modifier statement line statement_list
+unfolding table placed target star_target behind_target next_target more_targets starred_set several_set parameter_name bracketed_names more_parameters default_value no_default behind_name named_parameter bracketed_parameter rest_parameter block_parameter sign_parameter simple_parameters parameters block_parameters brace_parts do_parts body_behind def_name def_in_brackets def_plain def_value plain_call lambda_block empty_brackets full_brackets lambda_call called arrow_parameters plain_block arrow_value then_sign else_part branch otherwise if_value unless_value loop_body while_value until_value when_clause case_value class_header rescue_clause body_else body_ensure handlers begin_value module_body class_value module_value keyword_form newlines behind_newlines paren closed brace_block do_block block tail paren_tail keyword_value word_value integer_value text ivar_value gvar_value top_constant word_list embedded interpolated parenthesized array label_key pair_in_braces hash_value name_call constant_value super_value yield_value prim dot_part scope_part bracket post not_level power_level minus_level product_level sum_level shift_level comparison_level equal_level equality_level and_level or_level range_level ternary argument command_arguments command_part splat item more_items splat_list other_items one_value nested_value right_side jump_value jump command_level block_argument label_pair arrow_pair arguments_from arguments cargs more_pairs method_name not_expression expression alias_statement undef_statement simple modifier statement line statement_list
 c_statements r = (λ x. omega (arith, sequence_deep (act.statements (x.0 ∷ x.1)), statements_deep (x.0 ∷ x.1)), (refl, c_line r, (refl, refl, (λ x. omega arith, (refl, tt, c_line r)))))

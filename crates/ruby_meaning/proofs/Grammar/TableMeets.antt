@@ -20,14 +20,14 @@ use Rattle.ruby_meaning.specs.Grammar.Calls.{closed, paren, block_parameters, br
 use Rattle.ruby_meaning.specs.Grammar.Definitions.{then_sign, else_part, branch, otherwise, if_value, unless_value, loop_body, while_value, until_value, when_clause, case_value, class_header, rescue_clause, body_else, body_ensure, handlers, body_behind, begin_value, module_body, class_value, module_value, method_name, def_name, def_in_brackets, def_plain, def_value, keyword_form}
 use Rattle.ruby_meaning.specs.Grammar.Primaries.{keyword_value, word_value, integer_value, text, ivar_value, gvar_value, top_constant, word_list, embedded, interpolated, parenthesized, array, label_key, pair_in_braces, hash_value, plain_call, lambda_block, empty_brackets, full_brackets, lambda_call, called, name_call, arrow_parameters, plain_block, arrow_value, constant_value, super_value, yield_value, prim, dot_part, scope_part, bracket, post}
 use Rattle.ruby_meaning.specs.Grammar.Expressions.{value_of, not_level, power_level, minus_level, product_level, sum_level, shift_level, comparison_level, equal_level, equality_level, and_level, or_level, range_level, ternary, argument, command_arguments, command_part, splat, item, more_items, splat_list, other_items, one_value, nested_value, right_side, jump_value, jump, command_level, block_argument, label_pair, arrow_pair, arguments_from, arguments, cargs, more_pairs}
-use Rattle.ruby_meaning.specs.Grammar.Statements.{not_expression, expression, alias_statement, undef_statement, simple, modifier, statement, line, statement_list}
+use Rattle.ruby_meaning.specs.Grammar.Statements.{not_expression, expression, alias_statement, undef_statement, placed, target, star_target, behind_target, next_target, more_targets, starred_set, several_set, simple, modifier, statement, line, statement_list}
 use Rattle.ruby_meaning.specs.Grammar.Table.{table, rule_of, begins, is_nullable, value_goes_on, goes_on_of}
 use Rattle.ruby_meaning.specs.Grammar.Table.{continues as behind}
 use Rattle.ruby_meaning.proofs.Grammar.Codes.{code_within}
-use Rattle.ruby_meaning.proofs.Grammar.Checks.{Quiet, bounded, quiet_comma, c_statements, c_statement, c_expression, c_not_expression, c_right, c_nested, c_one, c_argument, c_ternary, c_or, c_and, c_equality, c_comparison, c_shift, c_sum, c_product, c_minus, c_power, c_not, c_cargs, c_arguments, c_pairs, c_parameters, c_otherwise}
+use Rattle.ruby_meaning.proofs.Grammar.Checks.{Quiet, bounded, quiet_comma, c_statements, c_statement, c_expression, c_not_expression, c_right, c_nested, c_one, c_argument, c_ternary, c_or, c_and, c_equality, c_comparison, c_shift, c_sum, c_product, c_minus, c_power, c_not, c_cargs, c_arguments, c_pairs, c_targets, c_parameters, c_otherwise}
 
 c_all : (n : Production) (d r : Bool) → Checks table (rule_of n d r)
-unfolding table parameter_name bracketed_names more_parameters default_value no_default behind_name named_parameter bracketed_parameter rest_parameter block_parameter sign_parameter simple_parameters parameters block_parameters brace_parts do_parts body_behind def_name def_in_brackets def_plain def_value plain_call lambda_block empty_brackets full_brackets lambda_call called arrow_parameters plain_block arrow_value then_sign else_part branch otherwise if_value unless_value loop_body while_value until_value when_clause case_value class_header rescue_clause body_else body_ensure handlers begin_value module_body class_value module_value keyword_form newlines behind_newlines paren closed brace_block do_block block tail paren_tail keyword_value word_value integer_value text ivar_value gvar_value top_constant word_list embedded interpolated parenthesized array label_key pair_in_braces hash_value name_call constant_value super_value yield_value prim dot_part scope_part bracket post not_level power_level minus_level product_level sum_level shift_level comparison_level equal_level equality_level and_level or_level range_level ternary argument command_arguments command_part splat item more_items splat_list other_items one_value nested_value right_side jump_value jump command_level block_argument label_pair arrow_pair arguments_from arguments cargs more_pairs method_name not_expression expression alias_statement undef_statement simple modifier statement line statement_list
+unfolding table placed target star_target behind_target next_target more_targets starred_set several_set parameter_name bracketed_names more_parameters default_value no_default behind_name named_parameter bracketed_parameter rest_parameter block_parameter sign_parameter simple_parameters parameters block_parameters brace_parts do_parts body_behind def_name def_in_brackets def_plain def_value plain_call lambda_block empty_brackets full_brackets lambda_call called arrow_parameters plain_block arrow_value then_sign else_part branch otherwise if_value unless_value loop_body while_value until_value when_clause case_value class_header rescue_clause body_else body_ensure handlers begin_value module_body class_value module_value keyword_form newlines behind_newlines paren closed brace_block do_block block tail paren_tail keyword_value word_value integer_value text ivar_value gvar_value top_constant word_list embedded interpolated parenthesized array label_key pair_in_braces hash_value name_call constant_value super_value yield_value prim dot_part scope_part bracket post not_level power_level minus_level product_level sum_level shift_level comparison_level equal_level equality_level and_level or_level range_level ternary argument command_arguments command_part splat item more_items splat_list other_items one_value nested_value right_side jump_value jump command_level block_argument label_pair arrow_pair arguments_from arguments cargs more_pairs method_name not_expression expression alias_statement undef_statement simple modifier statement line statement_list
 c_all p.Statements d r = c_statements r
 c_all p.Statement d r = (λ x. omega arith, c_statement r)
 c_all p.Expression d r = (λ x. omega arith, c_expression d r)
@@ -51,24 +51,25 @@ c_all p.Otherwise d r = c_otherwise r
 c_all (p.CommandArguments blocks) d r = c_cargs d r blocks
 c_all (p.Arguments blocks) d r = c_arguments d r blocks
 c_all (p.MorePairs blocks) d r = c_pairs d r blocks
+c_all (p.MoreTargets starred) d r = c_targets r starred
 c_all (p.Parameters s brackets) d r = c_parameters r brackets s
 
 g_prim : (d r : Bool) → Guarded table (prim r d)
-unfolding table parameter_name bracketed_names more_parameters default_value no_default behind_name named_parameter bracketed_parameter rest_parameter block_parameter sign_parameter simple_parameters parameters block_parameters brace_parts do_parts body_behind def_name def_in_brackets def_plain def_value plain_call lambda_block empty_brackets full_brackets lambda_call called arrow_parameters plain_block arrow_value then_sign else_part branch otherwise if_value unless_value loop_body while_value until_value when_clause case_value class_header rescue_clause body_else body_ensure handlers begin_value module_body class_value module_value keyword_form newlines behind_newlines paren closed brace_block do_block block tail paren_tail keyword_value word_value integer_value text ivar_value gvar_value top_constant word_list embedded interpolated parenthesized array label_key pair_in_braces hash_value name_call constant_value super_value yield_value prim dot_part scope_part bracket post not_level power_level minus_level product_level sum_level shift_level comparison_level equal_level equality_level and_level or_level range_level ternary argument command_arguments command_part splat item more_items splat_list other_items one_value nested_value right_side jump_value jump command_level block_argument label_pair arrow_pair arguments_from arguments cargs more_pairs method_name not_expression expression alias_statement undef_statement simple modifier statement line statement_list
+unfolding table placed target star_target behind_target next_target more_targets starred_set several_set parameter_name bracketed_names more_parameters default_value no_default behind_name named_parameter bracketed_parameter rest_parameter block_parameter sign_parameter simple_parameters parameters block_parameters brace_parts do_parts body_behind def_name def_in_brackets def_plain def_value plain_call lambda_block empty_brackets full_brackets lambda_call called arrow_parameters plain_block arrow_value then_sign else_part branch otherwise if_value unless_value loop_body while_value until_value when_clause case_value class_header rescue_clause body_else body_ensure handlers begin_value module_body class_value module_value keyword_form newlines behind_newlines paren closed brace_block do_block block tail paren_tail keyword_value word_value integer_value text ivar_value gvar_value top_constant word_list embedded interpolated parenthesized array label_key pair_in_braces hash_value name_call constant_value super_value yield_value prim dot_part scope_part bracket post not_level power_level minus_level product_level sum_level shift_level comparison_level equal_level equality_level and_level or_level range_level ternary argument command_arguments command_part splat item more_items splat_list other_items one_value nested_value right_side jump_value jump command_level block_argument label_pair arrow_pair arguments_from arguments cargs more_pairs method_name not_expression expression alias_statement undef_statement simple modifier statement line statement_list
 g_prim d r = ((tt, (tt, (tt, (tt, tt)))), (tt, (tt, (tt, (tt, (tt, (tt, (tt, ((tt, inr refl), (tt, ((tt, inr refl), (tt, (tt, (tt, (tt, (tt, (tt, (tt, (tt, (tt, (tt, (tt, (tt, (tt, ((tt, inr refl), inr refl)))))))))))))))))))))))))
 
 g_power : (d r : Bool) → Guarded table (power_level d r)
-unfolding table parameter_name bracketed_names more_parameters default_value no_default behind_name named_parameter bracketed_parameter rest_parameter block_parameter sign_parameter simple_parameters parameters block_parameters brace_parts do_parts body_behind def_name def_in_brackets def_plain def_value plain_call lambda_block empty_brackets full_brackets lambda_call called arrow_parameters plain_block arrow_value then_sign else_part branch otherwise if_value unless_value loop_body while_value until_value when_clause case_value class_header rescue_clause body_else body_ensure handlers begin_value module_body class_value module_value keyword_form newlines behind_newlines paren closed brace_block do_block block tail paren_tail keyword_value word_value integer_value text ivar_value gvar_value top_constant word_list embedded interpolated parenthesized array label_key pair_in_braces hash_value name_call constant_value super_value yield_value prim dot_part scope_part bracket post not_level power_level minus_level product_level sum_level shift_level comparison_level equal_level equality_level and_level or_level range_level ternary argument command_arguments command_part splat item more_items splat_list other_items one_value nested_value right_side jump_value jump command_level block_argument label_pair arrow_pair arguments_from arguments cargs more_pairs method_name not_expression expression alias_statement undef_statement simple modifier statement line statement_list
+unfolding table placed target star_target behind_target next_target more_targets starred_set several_set parameter_name bracketed_names more_parameters default_value no_default behind_name named_parameter bracketed_parameter rest_parameter block_parameter sign_parameter simple_parameters parameters block_parameters brace_parts do_parts body_behind def_name def_in_brackets def_plain def_value plain_call lambda_block empty_brackets full_brackets lambda_call called arrow_parameters plain_block arrow_value then_sign else_part branch otherwise if_value unless_value loop_body while_value until_value when_clause case_value class_header rescue_clause body_else body_ensure handlers begin_value module_body class_value module_value keyword_form newlines behind_newlines paren closed brace_block do_block block tail paren_tail keyword_value word_value integer_value text ivar_value gvar_value top_constant word_list embedded interpolated parenthesized array label_key pair_in_braces hash_value name_call constant_value super_value yield_value prim dot_part scope_part bracket post not_level power_level minus_level product_level sum_level shift_level comparison_level equal_level equality_level and_level or_level range_level ternary argument command_arguments command_part splat item more_items splat_list other_items one_value nested_value right_side jump_value jump command_level block_argument label_pair arrow_pair arguments_from arguments cargs more_pairs method_name not_expression expression alias_statement undef_statement simple modifier statement line statement_list
 g_power d r = (tt, g_prim d r)
 
 g_minus : (d r : Bool) → Guarded table (minus_level d r)
-unfolding table parameter_name bracketed_names more_parameters default_value no_default behind_name named_parameter bracketed_parameter rest_parameter block_parameter sign_parameter simple_parameters parameters block_parameters brace_parts do_parts body_behind def_name def_in_brackets def_plain def_value plain_call lambda_block empty_brackets full_brackets lambda_call called arrow_parameters plain_block arrow_value then_sign else_part branch otherwise if_value unless_value loop_body while_value until_value when_clause case_value class_header rescue_clause body_else body_ensure handlers begin_value module_body class_value module_value keyword_form newlines behind_newlines paren closed brace_block do_block block tail paren_tail keyword_value word_value integer_value text ivar_value gvar_value top_constant word_list embedded interpolated parenthesized array label_key pair_in_braces hash_value name_call constant_value super_value yield_value prim dot_part scope_part bracket post not_level power_level minus_level product_level sum_level shift_level comparison_level equal_level equality_level and_level or_level range_level ternary argument command_arguments command_part splat item more_items splat_list other_items one_value nested_value right_side jump_value jump command_level block_argument label_pair arrow_pair arguments_from arguments cargs more_pairs method_name not_expression expression alias_statement undef_statement simple modifier statement line statement_list
+unfolding table placed target star_target behind_target next_target more_targets starred_set several_set parameter_name bracketed_names more_parameters default_value no_default behind_name named_parameter bracketed_parameter rest_parameter block_parameter sign_parameter simple_parameters parameters block_parameters brace_parts do_parts body_behind def_name def_in_brackets def_plain def_value plain_call lambda_block empty_brackets full_brackets lambda_call called arrow_parameters plain_block arrow_value then_sign else_part branch otherwise if_value unless_value loop_body while_value until_value when_clause case_value class_header rescue_clause body_else body_ensure handlers begin_value module_body class_value module_value keyword_form newlines behind_newlines paren closed brace_block do_block block tail paren_tail keyword_value word_value integer_value text ivar_value gvar_value top_constant word_list embedded interpolated parenthesized array label_key pair_in_braces hash_value name_call constant_value super_value yield_value prim dot_part scope_part bracket post not_level power_level minus_level product_level sum_level shift_level comparison_level equal_level equality_level and_level or_level range_level ternary argument command_arguments command_part splat item more_items splat_list other_items one_value nested_value right_side jump_value jump command_level block_argument label_pair arrow_pair arguments_from arguments cargs more_pairs method_name not_expression expression alias_statement undef_statement simple modifier statement line statement_list
 g_minus d r = (tt, g_power d r)
 
 guards : (n : Production) (d r : Bool) → Guarded table (rule_of n d r)
-unfolding table parameter_name bracketed_names more_parameters default_value no_default behind_name named_parameter bracketed_parameter rest_parameter block_parameter sign_parameter simple_parameters parameters block_parameters brace_parts do_parts body_behind def_name def_in_brackets def_plain def_value plain_call lambda_block empty_brackets full_brackets lambda_call called arrow_parameters plain_block arrow_value then_sign else_part branch otherwise if_value unless_value loop_body while_value until_value when_clause case_value class_header rescue_clause body_else body_ensure handlers begin_value module_body class_value module_value keyword_form newlines behind_newlines paren closed brace_block do_block block tail paren_tail keyword_value word_value integer_value text ivar_value gvar_value top_constant word_list embedded interpolated parenthesized array label_key pair_in_braces hash_value name_call constant_value super_value yield_value prim dot_part scope_part bracket post not_level power_level minus_level product_level sum_level shift_level comparison_level equal_level equality_level and_level or_level range_level ternary argument command_arguments command_part splat item more_items splat_list other_items one_value nested_value right_side jump_value jump command_level block_argument label_pair arrow_pair arguments_from arguments cargs more_pairs method_name not_expression expression alias_statement undef_statement simple modifier statement line statement_list
+unfolding table placed target star_target behind_target next_target more_targets starred_set several_set parameter_name bracketed_names more_parameters default_value no_default behind_name named_parameter bracketed_parameter rest_parameter block_parameter sign_parameter simple_parameters parameters block_parameters brace_parts do_parts body_behind def_name def_in_brackets def_plain def_value plain_call lambda_block empty_brackets full_brackets lambda_call called arrow_parameters plain_block arrow_value then_sign else_part branch otherwise if_value unless_value loop_body while_value until_value when_clause case_value class_header rescue_clause body_else body_ensure handlers begin_value module_body class_value module_value keyword_form newlines behind_newlines paren closed brace_block do_block block tail paren_tail keyword_value word_value integer_value text ivar_value gvar_value top_constant word_list embedded interpolated parenthesized array label_key pair_in_braces hash_value name_call constant_value super_value yield_value prim dot_part scope_part bracket post not_level power_level minus_level product_level sum_level shift_level comparison_level equal_level equality_level and_level or_level range_level ternary argument command_arguments command_part splat item more_items splat_list other_items one_value nested_value right_side jump_value jump command_level block_argument label_pair arrow_pair arguments_from arguments cargs more_pairs method_name not_expression expression alias_statement undef_statement simple modifier statement line statement_list
 guards p.Statements d r = tt
-guards p.Statement d r = (tt, (tt, (tt, (tt, g_minus true r))))
+guards p.Statement d r = (tt, (tt, (tt, (tt, (tt, g_minus true r)))))
 guards p.Expression d r = (tt, (tt, g_minus d r))
 guards p.NotExpression d r = (tt, (tt, g_minus d r))
 guards p.RightSide d r = (tt, g_minus d r)
@@ -93,6 +94,7 @@ guards (p.Arguments true) d r = (tt, (tt, (tt, g_minus d r)))
 guards (p.Arguments false) d r = (tt, (tt, g_minus d r))
 guards (p.MorePairs true) d r = (tt, (tt, tt))
 guards (p.MorePairs false) d r = (tt, tt)
+guards (p.MoreTargets starred) d r = (tt, inr refl)
 guards (p.Parameters stage.Plain true) d r = (((tt, inr refl), inr refl), ((tt, inr refl), ((tt, inr refl), (tt, inr refl))))
 guards (p.Parameters stage.Plain false) d r = ((tt, inr refl), ((tt, inr refl), (tt, inr refl)))
 guards (p.Parameters stage.Optional true) d r = (((tt, inr refl), inr refl), ((tt, inr refl), ((tt, inr refl), (tt, inr refl))))
@@ -103,15 +105,15 @@ guards (p.Parameters stage.After true) d r = (((tt, inr refl), inr refl), ((tt, 
 guards (p.Parameters stage.After false) d r = ((tt, inr refl), (tt, inr refl))
 
 all_begin_statement : (r : Bool) → Included table (first table (value_of (statement r))) (begins p.Statement)
-unfolding table parameter_name bracketed_names more_parameters default_value no_default behind_name named_parameter bracketed_parameter rest_parameter block_parameter sign_parameter simple_parameters parameters block_parameters brace_parts do_parts body_behind def_name def_in_brackets def_plain def_value plain_call lambda_block empty_brackets full_brackets lambda_call called arrow_parameters plain_block arrow_value then_sign else_part branch otherwise if_value unless_value loop_body while_value until_value when_clause case_value class_header rescue_clause body_else body_ensure handlers begin_value module_body class_value module_value keyword_form newlines behind_newlines paren closed brace_block do_block block tail paren_tail keyword_value word_value integer_value text ivar_value gvar_value top_constant word_list embedded interpolated parenthesized array label_key pair_in_braces hash_value name_call constant_value super_value yield_value prim dot_part scope_part bracket post not_level power_level minus_level product_level sum_level shift_level comparison_level equal_level equality_level and_level or_level range_level ternary argument command_arguments command_part splat item more_items splat_list other_items one_value nested_value right_side jump_value jump command_level block_argument label_pair arrow_pair arguments_from arguments cargs more_pairs method_name not_expression expression alias_statement undef_statement simple modifier statement line statement_list
+unfolding table placed target star_target behind_target next_target more_targets starred_set several_set parameter_name bracketed_names more_parameters default_value no_default behind_name named_parameter bracketed_parameter rest_parameter block_parameter sign_parameter simple_parameters parameters block_parameters brace_parts do_parts body_behind def_name def_in_brackets def_plain def_value plain_call lambda_block empty_brackets full_brackets lambda_call called arrow_parameters plain_block arrow_value then_sign else_part branch otherwise if_value unless_value loop_body while_value until_value when_clause case_value class_header rescue_clause body_else body_ensure handlers begin_value module_body class_value module_value keyword_form newlines behind_newlines paren closed brace_block do_block block tail paren_tail keyword_value word_value integer_value text ivar_value gvar_value top_constant word_list embedded interpolated parenthesized array label_key pair_in_braces hash_value name_call constant_value super_value yield_value prim dot_part scope_part bracket post not_level power_level minus_level product_level sum_level shift_level comparison_level equal_level equality_level and_level or_level range_level ternary argument command_arguments command_part splat item more_items splat_list other_items one_value nested_value right_side jump_value jump command_level block_argument label_pair arrow_pair arguments_from arguments cargs more_pairs method_name not_expression expression alias_statement undef_statement simple modifier statement line statement_list
 all_begin_statement r = refl
 
 all_begin_statements : (r : Bool) → Included table (first table (statement_list r)) (begins p.Statements)
-unfolding table parameter_name bracketed_names more_parameters default_value no_default behind_name named_parameter bracketed_parameter rest_parameter block_parameter sign_parameter simple_parameters parameters block_parameters brace_parts do_parts body_behind def_name def_in_brackets def_plain def_value plain_call lambda_block empty_brackets full_brackets lambda_call called arrow_parameters plain_block arrow_value then_sign else_part branch otherwise if_value unless_value loop_body while_value until_value when_clause case_value class_header rescue_clause body_else body_ensure handlers begin_value module_body class_value module_value keyword_form newlines behind_newlines paren closed brace_block do_block block tail paren_tail keyword_value word_value integer_value text ivar_value gvar_value top_constant word_list embedded interpolated parenthesized array label_key pair_in_braces hash_value name_call constant_value super_value yield_value prim dot_part scope_part bracket post not_level power_level minus_level product_level sum_level shift_level comparison_level equal_level equality_level and_level or_level range_level ternary argument command_arguments command_part splat item more_items splat_list other_items one_value nested_value right_side jump_value jump command_level block_argument label_pair arrow_pair arguments_from arguments cargs more_pairs method_name not_expression expression alias_statement undef_statement simple modifier statement line statement_list
+unfolding table placed target star_target behind_target next_target more_targets starred_set several_set parameter_name bracketed_names more_parameters default_value no_default behind_name named_parameter bracketed_parameter rest_parameter block_parameter sign_parameter simple_parameters parameters block_parameters brace_parts do_parts body_behind def_name def_in_brackets def_plain def_value plain_call lambda_block empty_brackets full_brackets lambda_call called arrow_parameters plain_block arrow_value then_sign else_part branch otherwise if_value unless_value loop_body while_value until_value when_clause case_value class_header rescue_clause body_else body_ensure handlers begin_value module_body class_value module_value keyword_form newlines behind_newlines paren closed brace_block do_block block tail paren_tail keyword_value word_value integer_value text ivar_value gvar_value top_constant word_list embedded interpolated parenthesized array label_key pair_in_braces hash_value name_call constant_value super_value yield_value prim dot_part scope_part bracket post not_level power_level minus_level product_level sum_level shift_level comparison_level equal_level equality_level and_level or_level range_level ternary argument command_arguments command_part splat item more_items splat_list other_items one_value nested_value right_side jump_value jump command_level block_argument label_pair arrow_pair arguments_from arguments cargs more_pairs method_name not_expression expression alias_statement undef_statement simple modifier statement line statement_list
 all_begin_statements r = refl
 
 all_begin : (n : Production) (d r : Bool) → Included table (first table (rule_of n d r)) (begins n)
-unfolding table parameter_name bracketed_names more_parameters default_value no_default behind_name named_parameter bracketed_parameter rest_parameter block_parameter sign_parameter simple_parameters parameters block_parameters brace_parts do_parts body_behind def_name def_in_brackets def_plain def_value plain_call lambda_block empty_brackets full_brackets lambda_call called arrow_parameters plain_block arrow_value then_sign else_part branch otherwise if_value unless_value loop_body while_value until_value when_clause case_value class_header rescue_clause body_else body_ensure handlers begin_value module_body class_value module_value keyword_form newlines behind_newlines paren closed brace_block do_block block tail paren_tail keyword_value word_value integer_value text ivar_value gvar_value top_constant word_list embedded interpolated parenthesized array label_key pair_in_braces hash_value name_call constant_value super_value yield_value prim dot_part scope_part bracket post not_level power_level minus_level product_level sum_level shift_level comparison_level equal_level equality_level and_level or_level range_level ternary argument command_arguments command_part splat item more_items splat_list other_items one_value nested_value right_side jump_value jump command_level block_argument label_pair arrow_pair arguments_from arguments cargs more_pairs method_name not_expression expression alias_statement undef_statement simple modifier statement line statement_list
+unfolding table placed target star_target behind_target next_target more_targets starred_set several_set parameter_name bracketed_names more_parameters default_value no_default behind_name named_parameter bracketed_parameter rest_parameter block_parameter sign_parameter simple_parameters parameters block_parameters brace_parts do_parts body_behind def_name def_in_brackets def_plain def_value plain_call lambda_block empty_brackets full_brackets lambda_call called arrow_parameters plain_block arrow_value then_sign else_part branch otherwise if_value unless_value loop_body while_value until_value when_clause case_value class_header rescue_clause body_else body_ensure handlers begin_value module_body class_value module_value keyword_form newlines behind_newlines paren closed brace_block do_block block tail paren_tail keyword_value word_value integer_value text ivar_value gvar_value top_constant word_list embedded interpolated parenthesized array label_key pair_in_braces hash_value name_call constant_value super_value yield_value prim dot_part scope_part bracket post not_level power_level minus_level product_level sum_level shift_level comparison_level equal_level equality_level and_level or_level range_level ternary argument command_arguments command_part splat item more_items splat_list other_items one_value nested_value right_side jump_value jump command_level block_argument label_pair arrow_pair arguments_from arguments cargs more_pairs method_name not_expression expression alias_statement undef_statement simple modifier statement line statement_list
 all_begin p.Statements d r = all_begin_statements r
 all_begin p.Statement d r = all_begin_statement r
 all_begin p.Expression true r = refl
@@ -162,6 +164,8 @@ all_begin (p.MorePairs true) true r = refl
 all_begin (p.MorePairs false) true r = refl
 all_begin (p.MorePairs true) false r = refl
 all_begin (p.MorePairs false) false r = refl
+all_begin (p.MoreTargets true) d r = refl
+all_begin (p.MoreTargets false) d r = refl
 all_begin (p.Parameters stage.Plain true) d r = refl
 all_begin (p.Parameters stage.Plain false) d r = refl
 all_begin (p.Parameters stage.Optional true) d r = refl
@@ -172,15 +176,15 @@ all_begin (p.Parameters stage.After true) d r = refl
 all_begin (p.Parameters stage.After false) d r = refl
 
 all_continue_statement : (r : Bool) → Included table (continues table (value_of (statement r))) (behind p.Statement true)
-unfolding table parameter_name bracketed_names more_parameters default_value no_default behind_name named_parameter bracketed_parameter rest_parameter block_parameter sign_parameter simple_parameters parameters block_parameters brace_parts do_parts body_behind def_name def_in_brackets def_plain def_value plain_call lambda_block empty_brackets full_brackets lambda_call called arrow_parameters plain_block arrow_value then_sign else_part branch otherwise if_value unless_value loop_body while_value until_value when_clause case_value class_header rescue_clause body_else body_ensure handlers begin_value module_body class_value module_value keyword_form newlines behind_newlines paren closed brace_block do_block block tail paren_tail keyword_value word_value integer_value text ivar_value gvar_value top_constant word_list embedded interpolated parenthesized array label_key pair_in_braces hash_value name_call constant_value super_value yield_value prim dot_part scope_part bracket post not_level power_level minus_level product_level sum_level shift_level comparison_level equal_level equality_level and_level or_level range_level ternary argument command_arguments command_part splat item more_items splat_list other_items one_value nested_value right_side jump_value jump command_level block_argument label_pair arrow_pair arguments_from arguments cargs more_pairs method_name not_expression expression alias_statement undef_statement simple modifier statement line statement_list
+unfolding table placed target star_target behind_target next_target more_targets starred_set several_set parameter_name bracketed_names more_parameters default_value no_default behind_name named_parameter bracketed_parameter rest_parameter block_parameter sign_parameter simple_parameters parameters block_parameters brace_parts do_parts body_behind def_name def_in_brackets def_plain def_value plain_call lambda_block empty_brackets full_brackets lambda_call called arrow_parameters plain_block arrow_value then_sign else_part branch otherwise if_value unless_value loop_body while_value until_value when_clause case_value class_header rescue_clause body_else body_ensure handlers begin_value module_body class_value module_value keyword_form newlines behind_newlines paren closed brace_block do_block block tail paren_tail keyword_value word_value integer_value text ivar_value gvar_value top_constant word_list embedded interpolated parenthesized array label_key pair_in_braces hash_value name_call constant_value super_value yield_value prim dot_part scope_part bracket post not_level power_level minus_level product_level sum_level shift_level comparison_level equal_level equality_level and_level or_level range_level ternary argument command_arguments command_part splat item more_items splat_list other_items one_value nested_value right_side jump_value jump command_level block_argument label_pair arrow_pair arguments_from arguments cargs more_pairs method_name not_expression expression alias_statement undef_statement simple modifier statement line statement_list
 all_continue_statement r = refl
 
 all_continue_statements : (r : Bool) → Included table (continues table (statement_list r)) (behind p.Statements true)
-unfolding table parameter_name bracketed_names more_parameters default_value no_default behind_name named_parameter bracketed_parameter rest_parameter block_parameter sign_parameter simple_parameters parameters block_parameters brace_parts do_parts body_behind def_name def_in_brackets def_plain def_value plain_call lambda_block empty_brackets full_brackets lambda_call called arrow_parameters plain_block arrow_value then_sign else_part branch otherwise if_value unless_value loop_body while_value until_value when_clause case_value class_header rescue_clause body_else body_ensure handlers begin_value module_body class_value module_value keyword_form newlines behind_newlines paren closed brace_block do_block block tail paren_tail keyword_value word_value integer_value text ivar_value gvar_value top_constant word_list embedded interpolated parenthesized array label_key pair_in_braces hash_value name_call constant_value super_value yield_value prim dot_part scope_part bracket post not_level power_level minus_level product_level sum_level shift_level comparison_level equal_level equality_level and_level or_level range_level ternary argument command_arguments command_part splat item more_items splat_list other_items one_value nested_value right_side jump_value jump command_level block_argument label_pair arrow_pair arguments_from arguments cargs more_pairs method_name not_expression expression alias_statement undef_statement simple modifier statement line statement_list
+unfolding table placed target star_target behind_target next_target more_targets starred_set several_set parameter_name bracketed_names more_parameters default_value no_default behind_name named_parameter bracketed_parameter rest_parameter block_parameter sign_parameter simple_parameters parameters block_parameters brace_parts do_parts body_behind def_name def_in_brackets def_plain def_value plain_call lambda_block empty_brackets full_brackets lambda_call called arrow_parameters plain_block arrow_value then_sign else_part branch otherwise if_value unless_value loop_body while_value until_value when_clause case_value class_header rescue_clause body_else body_ensure handlers begin_value module_body class_value module_value keyword_form newlines behind_newlines paren closed brace_block do_block block tail paren_tail keyword_value word_value integer_value text ivar_value gvar_value top_constant word_list embedded interpolated parenthesized array label_key pair_in_braces hash_value name_call constant_value super_value yield_value prim dot_part scope_part bracket post not_level power_level minus_level product_level sum_level shift_level comparison_level equal_level equality_level and_level or_level range_level ternary argument command_arguments command_part splat item more_items splat_list other_items one_value nested_value right_side jump_value jump command_level block_argument label_pair arrow_pair arguments_from arguments cargs more_pairs method_name not_expression expression alias_statement undef_statement simple modifier statement line statement_list
 all_continue_statements r = refl
 
 all_continue : (n : Production) (d r : Bool) → Included table (continues table (rule_of n d r)) (behind n d)
-unfolding table parameter_name bracketed_names more_parameters default_value no_default behind_name named_parameter bracketed_parameter rest_parameter block_parameter sign_parameter simple_parameters parameters block_parameters brace_parts do_parts body_behind def_name def_in_brackets def_plain def_value plain_call lambda_block empty_brackets full_brackets lambda_call called arrow_parameters plain_block arrow_value then_sign else_part branch otherwise if_value unless_value loop_body while_value until_value when_clause case_value class_header rescue_clause body_else body_ensure handlers begin_value module_body class_value module_value keyword_form newlines behind_newlines paren closed brace_block do_block block tail paren_tail keyword_value word_value integer_value text ivar_value gvar_value top_constant word_list embedded interpolated parenthesized array label_key pair_in_braces hash_value name_call constant_value super_value yield_value prim dot_part scope_part bracket post not_level power_level minus_level product_level sum_level shift_level comparison_level equal_level equality_level and_level or_level range_level ternary argument command_arguments command_part splat item more_items splat_list other_items one_value nested_value right_side jump_value jump command_level block_argument label_pair arrow_pair arguments_from arguments cargs more_pairs method_name not_expression expression alias_statement undef_statement simple modifier statement line statement_list
+unfolding table placed target star_target behind_target next_target more_targets starred_set several_set parameter_name bracketed_names more_parameters default_value no_default behind_name named_parameter bracketed_parameter rest_parameter block_parameter sign_parameter simple_parameters parameters block_parameters brace_parts do_parts body_behind def_name def_in_brackets def_plain def_value plain_call lambda_block empty_brackets full_brackets lambda_call called arrow_parameters plain_block arrow_value then_sign else_part branch otherwise if_value unless_value loop_body while_value until_value when_clause case_value class_header rescue_clause body_else body_ensure handlers begin_value module_body class_value module_value keyword_form newlines behind_newlines paren closed brace_block do_block block tail paren_tail keyword_value word_value integer_value text ivar_value gvar_value top_constant word_list embedded interpolated parenthesized array label_key pair_in_braces hash_value name_call constant_value super_value yield_value prim dot_part scope_part bracket post not_level power_level minus_level product_level sum_level shift_level comparison_level equal_level equality_level and_level or_level range_level ternary argument command_arguments command_part splat item more_items splat_list other_items one_value nested_value right_side jump_value jump command_level block_argument label_pair arrow_pair arguments_from arguments cargs more_pairs method_name not_expression expression alias_statement undef_statement simple modifier statement line statement_list
 all_continue p.Statements d r = all_continue_statements r
 all_continue p.Statement d r = all_continue_statement r
 all_continue p.Expression true r = refl
@@ -231,6 +235,8 @@ all_continue (p.MorePairs true) true r = refl
 all_continue (p.MorePairs false) true r = refl
 all_continue (p.MorePairs true) false r = refl
 all_continue (p.MorePairs false) false r = refl
+all_continue (p.MoreTargets true) d r = refl
+all_continue (p.MoreTargets false) d r = refl
 all_continue (p.Parameters stage.Plain true) d r = refl
 all_continue (p.Parameters stage.Plain false) d r = refl
 all_continue (p.Parameters stage.Optional true) d r = refl
@@ -253,7 +259,7 @@ with_value n t c e h = and_both c _ e (by (nat_eq n act.commanded) (op mark.Comm
     by false false h = refl
 
 value_by : (n : Production) (d r : Bool) (x : El Seen Node (sort_of n)) (t : ℕ) → t < size → GoesOn table (rule_of n d r) x t → goes_on_of n d x t ≡ true
-unfolding table parameter_name bracketed_names more_parameters default_value no_default behind_name named_parameter bracketed_parameter rest_parameter block_parameter sign_parameter simple_parameters parameters block_parameters brace_parts do_parts body_behind def_name def_in_brackets def_plain def_value plain_call lambda_block empty_brackets full_brackets lambda_call called arrow_parameters plain_block arrow_value then_sign else_part branch otherwise if_value unless_value loop_body while_value until_value when_clause case_value class_header rescue_clause body_else body_ensure handlers begin_value module_body class_value module_value keyword_form newlines behind_newlines paren closed brace_block do_block block tail paren_tail keyword_value word_value integer_value text ivar_value gvar_value top_constant word_list embedded interpolated parenthesized array label_key pair_in_braces hash_value name_call constant_value super_value yield_value prim dot_part scope_part bracket post not_level power_level minus_level product_level sum_level shift_level comparison_level equal_level equality_level and_level or_level range_level ternary argument command_arguments command_part splat item more_items splat_list other_items one_value nested_value right_side jump_value jump command_level block_argument label_pair arrow_pair arguments_from arguments cargs more_pairs method_name not_expression expression alias_statement undef_statement simple modifier statement line statement_list Quiet
+unfolding table placed target star_target behind_target next_target more_targets starred_set several_set parameter_name bracketed_names more_parameters default_value no_default behind_name named_parameter bracketed_parameter rest_parameter block_parameter sign_parameter simple_parameters parameters block_parameters brace_parts do_parts body_behind def_name def_in_brackets def_plain def_value plain_call lambda_block empty_brackets full_brackets lambda_call called arrow_parameters plain_block arrow_value then_sign else_part branch otherwise if_value unless_value loop_body while_value until_value when_clause case_value class_header rescue_clause body_else body_ensure handlers begin_value module_body class_value module_value keyword_form newlines behind_newlines paren closed brace_block do_block block tail paren_tail keyword_value word_value integer_value text ivar_value gvar_value top_constant word_list embedded interpolated parenthesized array label_key pair_in_braces hash_value name_call constant_value super_value yield_value prim dot_part scope_part bracket post not_level power_level minus_level product_level sum_level shift_level comparison_level equal_level equality_level and_level or_level range_level ternary argument command_arguments command_part splat item more_items splat_list other_items one_value nested_value right_side jump_value jump command_level block_argument label_pair arrow_pair arguments_from arguments cargs more_pairs method_name not_expression expression alias_statement undef_statement simple modifier statement line statement_list Quiet
 value_by p.OneValue d r x t less g = with_value x.1 t (behind p.OneValue d t) (class_of p.OneValue d r x t less g) (λ k j. quiet_comma d r x k t less g j)
 value_by p.NestedValue d r x t less (inl (n, e, g)) = with_value x.1 t (behind p.NestedValue d t) (class_of p.NestedValue d r x t less (inl (n, e, g))) (λ k j. true≢false (sym (subst (λ z. not (nat_eq z.1 act.commanded) ≡ true) e k)))
 value_by p.NestedValue d r x t less (inr (inl g)) = with_value x.1 t (behind p.NestedValue d t) (class_of p.NestedValue d r x t less (inr (inl g))) (λ k j. quiet_comma d r x k t less g j)
@@ -279,10 +285,11 @@ value_by p.Otherwise d r x t less g = class_of p.Otherwise d r x t less g
 value_by (p.CommandArguments blocks) d r x t less g = class_of (p.CommandArguments blocks) d r x t less g
 value_by (p.Arguments blocks) d r x t less g = class_of (p.Arguments blocks) d r x t less g
 value_by (p.MorePairs blocks) d r x t less g = class_of (p.MorePairs blocks) d r x t less g
+value_by (p.MoreTargets starred) d r x t less g = class_of (p.MoreTargets starred) d r x t less g
 value_by (p.Parameters s brackets) d r x t less g = class_of (p.Parameters s brackets) d r x t less g
 
 empties : (n : Production) (d r : Bool) → nullable table (rule_of n d r) ≡ true → is_nullable n ≡ true
-unfolding table parameter_name bracketed_names more_parameters default_value no_default behind_name named_parameter bracketed_parameter rest_parameter block_parameter sign_parameter simple_parameters parameters block_parameters brace_parts do_parts body_behind def_name def_in_brackets def_plain def_value plain_call lambda_block empty_brackets full_brackets lambda_call called arrow_parameters plain_block arrow_value then_sign else_part branch otherwise if_value unless_value loop_body while_value until_value when_clause case_value class_header rescue_clause body_else body_ensure handlers begin_value module_body class_value module_value keyword_form newlines behind_newlines paren closed brace_block do_block block tail paren_tail keyword_value word_value integer_value text ivar_value gvar_value top_constant word_list embedded interpolated parenthesized array label_key pair_in_braces hash_value name_call constant_value super_value yield_value prim dot_part scope_part bracket post not_level power_level minus_level product_level sum_level shift_level comparison_level equal_level equality_level and_level or_level range_level ternary argument command_arguments command_part splat item more_items splat_list other_items one_value nested_value right_side jump_value jump command_level block_argument label_pair arrow_pair arguments_from arguments cargs more_pairs method_name not_expression expression alias_statement undef_statement simple modifier statement line statement_list
+unfolding table placed target star_target behind_target next_target more_targets starred_set several_set parameter_name bracketed_names more_parameters default_value no_default behind_name named_parameter bracketed_parameter rest_parameter block_parameter sign_parameter simple_parameters parameters block_parameters brace_parts do_parts body_behind def_name def_in_brackets def_plain def_value plain_call lambda_block empty_brackets full_brackets lambda_call called arrow_parameters plain_block arrow_value then_sign else_part branch otherwise if_value unless_value loop_body while_value until_value when_clause case_value class_header rescue_clause body_else body_ensure handlers begin_value module_body class_value module_value keyword_form newlines behind_newlines paren closed brace_block do_block block tail paren_tail keyword_value word_value integer_value text ivar_value gvar_value top_constant word_list embedded interpolated parenthesized array label_key pair_in_braces hash_value name_call constant_value super_value yield_value prim dot_part scope_part bracket post not_level power_level minus_level product_level sum_level shift_level comparison_level equal_level equality_level and_level or_level range_level ternary argument command_arguments command_part splat item more_items splat_list other_items one_value nested_value right_side jump_value jump command_level block_argument label_pair arrow_pair arguments_from arguments cargs more_pairs method_name not_expression expression alias_statement undef_statement simple modifier statement line statement_list
 empties p.Statements d r h = refl
 empties p.Statement d r h = h
 empties p.Expression d r h = h
@@ -309,6 +316,7 @@ empties (p.Arguments true) d r h = h
 empties (p.Arguments false) d r h = h
 empties (p.MorePairs true) d r h = h
 empties (p.MorePairs false) d r h = h
+empties (p.MoreTargets starred) d r h = h
 empties (p.Parameters stage.Plain true) d r h = h
 empties (p.Parameters stage.Plain false) d r h = h
 empties (p.Parameters stage.Optional true) d r h = h

@@ -314,6 +314,18 @@ abbrev pub set_place : Option Place → Node → Node → Node
 set_place None target value = target
 set_place (Some place) target value = make (set_kind place value) (nodes target value) target.mark
 
+-- a value that can be set, read as a place: a name is a local there
+abbrev pub name_target : Option Place → Node → Node
+name_target (Some (local name)) n = make (kind.LocalGet name) n.span n.mark
+name_target _ n = n
+
+abbrev pub target_node : Node × ℕ → Node
+target_node l = name_target (place_of l) l.0
+
+-- a first target, and others with the value of all
+abbrev pub multi_set : Node → List Node × Node → Node
+multi_set target x = make (kind.MultiSet (target ∷ x.0) x.1) (nodes target x.1) (target.span).from
+
 -- an assignment of a command is no argument
 abbrev pub ended : ℕ → ℕ
 ended n = if nat_eq n commanded then commanded else other

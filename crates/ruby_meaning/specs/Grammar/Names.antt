@@ -18,6 +18,10 @@ args_sort = pair (list tree) (pair pairs_sort (optional tree))
 abbrev pub params_sort : Sort
 params_sort = pair (list (list leaf)) (pair (list (pair leaf tree)) (pair (optional (optional leaf)) (pair (list (list leaf)) (optional leaf))))
 
+-- targets and their value
+abbrev pub targets_sort : Sort
+targets_sort = pair (list tree) tree
+
 -- A value with a number has with it how it was written.
 abbrev pub sort_of : Production → Sort
 sort_of p.Statements = marked tree
@@ -27,6 +31,7 @@ sort_of p.NestedValue = marked tree
 sort_of (p.Arguments blocks) = args_sort
 sort_of (p.CommandArguments blocks) = args_sort
 sort_of (p.MorePairs blocks) = args_sort
+sort_of (p.MoreTargets starred) = targets_sort
 sort_of (p.Parameters stage brackets) = params_sort
 sort_of _ = tree
 

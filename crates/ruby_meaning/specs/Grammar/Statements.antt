@@ -1,15 +1,16 @@
 -- Statements.
-use Rattle.std.specs.Prelude.{Bool, true, false, ◌∷◌}
-use Rattle.grammar.specs.Rules.{leaf, tree, marked, pair, list, optional, token, sequence, choice, view, node, many, suffixes, needs, named}
+use Rattle.std.specs.Prelude.{Bool, true, false, [], ◌∷◌}
+use Rattle.grammar.specs.Rules.{leaf, tree, flag, marked, pair, list, optional, token, absent, sequence, choice, view, node, many, suffixes, suffix, bind, needs, named}
 use Rattle.grammar.specs.CommonRules.{◌or◌, behind, maybe, separated}
 use Rattle.ruby_meaning.specs.declared.production.Production.TheVariants as p
 use Rattle.ruby_meaning.specs.declared.token.Mark.TheVariants as mark
 use Rattle.ruby_meaning.specs.declared.token.Word.TheVariants as word
 use Rattle.ruby_meaning.specs.declared.tree.Kind.TheVariants as kind
 use Rattle.ruby_meaning.specs.Grammar.Classes.{op, key}
-use Rattle.ruby_meaning.specs.Grammar.Names.{R, part}
-use Rattle.ruby_meaning.specs.Grammar.Actions.{make, start, span_of, from_token, to_end, other, full_name, full_names, name_span, names_span, joined, modified, if_behind, unless_behind, loop_behind, until_condition, statements, sequence_of}
+use Rattle.ruby_meaning.specs.Grammar.Names.{targets_sort, R, part}
+use Rattle.ruby_meaning.specs.Grammar.Actions.{make, start, span_of, from_token, to_end, other, full_name, full_names, name_span, names_span, is_place, target_node, multi_set, joined, modified, if_behind, unless_behind, loop_behind, until_condition, statements, sequence_of}
 use Rattle.ruby_meaning.specs.Grammar.Definitions.{separators, method_name}
+use Rattle.ruby_meaning.specs.Grammar.Primaries.{post}
 use Rattle.ruby_meaning.specs.Grammar.Expressions.{command_level}
 
 module _ (takes_do : Bool) (in_rescue : Bool) where
@@ -33,9 +34,42 @@ module _ (in_rescue : Bool) where
   undef_statement = node {s = pair leaf (list (pair leaf (optional leaf)))} (λ x. (make (kind.Undef (full_names x.1)) (to_end (span_of x.0) (names_span (span_of x.0) x.1)) (start x.0), other))
       (sequence (token (key word.Undef)) (separated method_name (op mark.Comma)))
 
-  -- simple : "alias" mname mname | "undef" mname ("," mname)* | expr
+  -- nothing stands behind what can't be set
+  unfoldable pub placed : Bool → R flag
+  placed true = absent 0
+  placed false = view {s = leaf} (λ t. 0) (token (λ n. false))
+
+  -- target : Name | Ivar | Gvar | CONST | post "." name | post "[" arguments "]"
+  unfoldable pub target : R tree
+  target = view {s = pair (marked tree) flag} (λ x. target_node x.0) (bind (post in_rescue true) true (λ n. false) (λ n. false) (λ l. placed (is_place l)))
+
+  -- "*" target
+  unfoldable pub star_target : R tree
+  star_target = node {s = pair leaf tree} (λ x. make (kind.Splat x.1) (from_token x.0 x.1) (start x.0)) (sequence (token (op mark.Star)) target)
+
+  unfoldable pub behind_target : Bool → R targets_sort
+  behind_target starred = choice (named (part (p.MoreTargets starred) true in_rescue)) (view {s = tree} (λ n. ([], n)) (behind (op mark.Assign) (named (part p.RightSide true in_rescue))))
+
+  -- one target may have a "*"
+  unfoldable pub next_target : Bool → R (pair tree targets_sort)
+  next_target true = choice (sequence star_target (behind_target false)) (sequence target (behind_target true))
+  next_target false = sequence target (behind_target false)
+
+  -- ("," target)+ "=" rhs
+  unfoldable pub more_targets : Bool → R targets_sort
+  more_targets starred = behind (op mark.Comma) (view {s = pair tree targets_sort} (λ x. (x.0 ∷ x.1.0, x.1.1)) (next_target starred))
+
+  -- "*" target ("," target)+ "=" rhs
+  unfoldable pub starred_set : R (marked tree)
+  starred_set = node {s = pair tree targets_sort} (λ x. (multi_set x.0 x.1, other)) (sequence star_target (named (part (p.MoreTargets false) true in_rescue)))
+
+  -- target ("," target)+ "=" rhs | expr
+  unfoldable pub several_set : R (marked tree)
+  several_set = suffix {r = targets_sort} 1 (expression true in_rescue) is_place (named (part (p.MoreTargets true) true in_rescue)) (λ l x. (multi_set (target_node l) x, other))
+
+  -- simple : "alias" mname mname | "undef" mname ("," mname)* | target ("," target)+ "=" rhs | expr
   unfoldable pub simple : R (marked tree)
-  simple = choice alias_statement (choice undef_statement (expression true in_rescue))
+  simple = choice alias_statement (choice undef_statement (choice starred_set several_set))
 
   -- ("if"|"unless"|"while"|"until") expr
   unfoldable pub modifier : R (marked (pair leaf tree))

@@ -17,7 +17,7 @@ use Rattle.ruby_meaning.specs.Grammar.Actions.{commanded}
 use Rattle.ruby_meaning.specs.Grammar.Definitions.{separators, otherwise}
 use Rattle.ruby_meaning.specs.Grammar.Parameters.{parameters}
 use Rattle.ruby_meaning.specs.Grammar.Expressions.{value_of, updates, begins_marked, begins_plain, not_level, power_level, minus_level, product_level, sum_level, shift_level, comparison_level, equality_level, and_level, or_level, ternary, argument, one_value, nested_value, right_side, cargs, arguments, more_pairs}
-use Rattle.ruby_meaning.specs.Grammar.Statements.{not_expression, expression, statement, statement_list}
+use Rattle.ruby_meaning.specs.Grammar.Statements.{not_expression, expression, more_targets, statement, statement_list}
 
 abbrev pub rule_of : (k : Production) → Bool → Bool → R (sort_of k)
 rule_of p.Statements d r = statement_list r
@@ -43,6 +43,7 @@ rule_of p.Otherwise d r = otherwise r
 rule_of (p.CommandArguments blocks) d r = cargs d r blocks
 rule_of (p.Arguments blocks) d r = arguments d r blocks
 rule_of (p.MorePairs blocks) d r = more_pairs d r blocks
+rule_of (p.MoreTargets starred) d r = more_targets r starred
 rule_of (p.Parameters stage brackets) d r = parameters r brackets stage
 
 -- ---- what begins a production
@@ -66,7 +67,7 @@ abbrev pub begins_expression : ℕ → Bool
 begins_expression = begins_value or key word.Not or key word.Return or key word.Break or key word.Next
 
 abbrev pub begins_statement : ℕ → Bool
-begins_statement = begins_expression or key word.Alias or key word.Undef
+begins_statement = begins_expression or key word.Alias or key word.Undef or op mark.Star
 
 abbrev pub begins_argument : ℕ → Bool
 begins_argument = begins_value or begins_splat or a sign.Label or op mark.Ampersand or marked_op mark.Ampersand
@@ -86,6 +87,7 @@ begins p.Otherwise = key word.Elsif or key word.Else
 begins (p.CommandArguments blocks) = begins_argument
 begins (p.Arguments blocks) = begins_argument
 begins (p.MorePairs blocks) = begins_argument
+begins (p.MoreTargets starred) = op mark.Comma
 begins (p.Parameters stage brackets) = begins_parameter brackets
 begins _ = begins_value
 
@@ -174,6 +176,7 @@ continues p.NotOperand d = behind_value d
 continues (p.CommandArguments blocks) d = behind_arguments d or begins_command
 continues (p.Arguments blocks) d = behind_arguments d
 continues (p.MorePairs blocks) d = behind_arguments d
+continues (p.MoreTargets starred) d = behind_command true
 continues (p.Parameters stage brackets) d = behind_parameters
 
 -- A comma goes on behind a command alone.
