@@ -4,3 +4,4 @@ pub mod ActionDepths
 pub mod Checks
 pub mod TableMeets
 pub mod Programs
+pub mod Refusals

@@ -10,3 +10,4 @@ pub mod Expressions
 pub mod Statements
 pub mod Table
 pub mod Laws
+pub mod Refusals

@@ -1,6 +1,7 @@
 //! Laws of the grammar, each the contract of a function that does nothing.
 
 ghost use Rattle.ruby_meaning.specs.Grammar.Laws.{OneProgram, SpelledOrRefused, NeverBoth, OnePlace, BeginningsAreFronts, OneTokenTells};
+ghost use Rattle.ruby_meaning.specs.Grammar.Refusals.{OneConstruct, SomeConstruct};
 
 /// Tokens spell one program at most. They spell one within the limit of depth or have one place of
 /// a refusal, and never both.
@@ -19,4 +20,10 @@ pub fn beginnings_are_fronts()
 /// The grammar meets what is asked of a grammar in which one token tells how to go on.
 pub fn one_token_tells()
     ensures { OneTokenTells }
+{}
+
+/// A refusal names one construct, at one place.
+pub fn one_construct()
+    ensures one { OneConstruct }
+    ensures some { SomeConstruct }
 {}

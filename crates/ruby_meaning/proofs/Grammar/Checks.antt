@@ -886,7 +886,7 @@ c_jump false r = (λ x. omega (arith, jump_deep x.0 x.1), (refl, tt, (refl, refl
 
 c_command : (b r : Bool) → Checks table (command_level b r)
 unfolding table placed target star_target behind_target next_target more_targets starred_set several_set parameter_name bracketed_names more_parameters default_value no_default behind_name named_parameter bracketed_parameter rest_parameter block_parameter sign_parameter simple_parameters parameters block_parameters brace_parts do_parts body_behind def_name def_in_brackets def_plain def_value plain_call lambda_block empty_brackets full_brackets lambda_call called arrow_parameters plain_block arrow_value then_sign else_part branch otherwise if_value unless_value loop_body while_value until_value when_clause case_value class_header rescue_clause body_else body_ensure handlers begin_value module_body class_value module_value keyword_form newlines behind_newlines paren closed brace_block do_block block tail paren_tail keyword_value word_value integer_value text ivar_value gvar_value top_constant word_list embedded interpolated parenthesized array label_key pair_in_braces hash_value name_call constant_value super_value yield_value prim dot_part scope_part bracket post not_level power_level minus_level product_level sum_level shift_level comparison_level equal_level equality_level and_level or_level range_level ternary argument command_arguments command_part splat item more_items splat_list other_items one_value nested_value right_side jump_value jump command_level block_argument label_pair arrow_pair arguments_from arguments cargs more_pairs method_name not_expression expression alias_statement undef_statement simple modifier statement line statement_list
-c_command true r = (refl, refl, c_jump true r, c_commanding true r (assignment true r (plain (named (part p.RightSide true r))) (named (part p.OneValue true r))) (c_assignment true r (plain (named (part p.RightSide true r))) (named (part p.OneValue true r)) (λ x. omega arith, tt) tt) refl (settled true r (plain (named (part p.RightSide true r))) (named (part p.OneValue true r))))
+c_command true r = (refl, refl, c_jump false r, c_commanding true r (assignment true r (plain (named (part p.RightSide true r))) (named (part p.OneValue true r))) (c_assignment true r (plain (named (part p.RightSide true r))) (named (part p.OneValue true r)) (λ x. omega arith, tt) tt) refl (settled true r (plain (named (part p.RightSide true r))) (named (part p.OneValue true r))))
 c_command false r = (refl, refl, c_jump false r, c_commanding false r (assignment false r (plain (named (part p.RightSide false r))) (named (part p.OneValue false r))) (c_assignment false r (plain (named (part p.RightSide false r))) (named (part p.OneValue false r)) (λ x. omega arith, tt) tt) refl (settled false r (plain (named (part p.RightSide false r))) (named (part p.OneValue false r))))
 
 c_block_argument : (b r : Bool) → Checks table (block_argument b r)
@@ -1261,7 +1261,7 @@ unfolding table placed target star_target behind_target next_target more_targets
 quiet_target r l k =
     quiet_suffixes 1 (not_expression true r) _ act.joined l (op mark.Comma)
     (quiet_choice _ (command_level true r) l (op mark.Comma) refl (quiet_made _ (marked tree) _ _ l (op mark.Comma) (λ x e. other_no_place l _ e k))
-    (quiet_choice (jump true r) _ l (op mark.Comma) refl (quiet_made _ (marked tree) _ _ l (op mark.Comma) (λ x e. other_no_place l _ e k))
+    (quiet_choice (jump false r) _ l (op mark.Comma) refl (quiet_made _ (marked tree) _ _ l (op mark.Comma) (λ x e. other_no_place l _ e k))
     (quiet_suffix 0 _ act.yields _ act.yield_command l (op mark.Comma)
     (quiet_suffix 0 _ (λ l. is_some (act.callee l)) _ act.command_node l (op mark.Comma)
     (quiet_assignment true r (plain (named (part p.RightSide true r))) (named (part p.OneValue true r)) l (op mark.Comma) (quiet_class (ternary true r) l (op mark.Comma) refl) refl refl (λ n m e. ended_no_place l n m e k))

@@ -603,13 +603,15 @@ abbrev pub is_plain_name : TokenKind → Bool
 is_plain_name (token.Name u) = if ends_in_sign u then false else true
 is_plain_name _ = false
 
-abbrev pub selected : Bool → ℕ
-selected true = attribute
-selected false = method
+-- a method that is called without brackets and block can be set, or take arguments as a command; one that an operator names
+-- can't
+abbrev pub selected : TokenKind → ℕ
+selected (token.Name u) = plain_or attribute method u
+selected (token.Const u) = method
+selected _ = other
 
--- a method that is called without brackets and block can be set, or take arguments as a command
 abbrev pub selected_number : Seen → Tail → ℕ
-selected_number t tail = if is_empty tail then selected (is_plain_name t.token.kind) else other
+selected_number t tail = if is_empty tail then selected t.token.kind else other
 
 abbrev pub index_number : Tail → ℕ
 index_number tail = if is_some (block_pass tail.0) then other else indexed

@@ -195,9 +195,10 @@ module _ (takes_do : Bool) (in_rescue : Bool) where
   unfoldable pub jump : R (marked tree)
   jump = node {s = pair leaf (marked tree)} (λ x. (jump_node x.0 x.1, other)) (sequence (token (key word.Return or key word.Break or key word.Next)) (choice (starting begins_no_modifier jump_value) (absent (nothing, 1))))
 
-  -- cmd : jump | command | target "=" rhs | target OP"=" rhs1 | arg
+module _ (takes_do : Bool) (in_rescue : Bool) where
+  -- cmd : jump | command | target "=" rhs | target OP"=" rhs1 | arg; no `do` block is taken in what a jump gives
   unfoldable pub command_level : R (marked tree)
-  command_level = choice jump (commanding (assignment takes_do in_rescue (plain (named (part p.RightSide takes_do in_rescue))) (named (part p.OneValue takes_do in_rescue))))
+  command_level = choice (jump false in_rescue) (commanding takes_do in_rescue (assignment takes_do in_rescue (plain (named (part p.RightSide takes_do in_rescue))) (named (part p.OneValue takes_do in_rescue))))
 
   -- ---- arguments
 
