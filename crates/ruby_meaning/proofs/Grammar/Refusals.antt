@@ -15,7 +15,7 @@ use Rattle.ruby_meaning.specs.declared.token.Token.{Token}
 use Rattle.ruby_meaning.specs.declared.token.Word.TheVariants as word
 use Rattle.ruby_meaning.specs.Grammar.Seen.{Seen}
 use Rattle.ruby_meaning.specs.Grammar.Laws.{whole_file, sight, GrammarFault}
-use Rattle.ruby_meaning.specs.Grammar.Refusals.{most_levels, stand_ins, has_sign, sign_at, is_marked, is_keyword_sign, is_in, is_arrow, is_case, last_from, IsPatternMatch, IsBehindSubject, IsBehindStatement, ArgumentMayStart, MayFollow, Cases, ConstructAt, GrammarRefusal}
+use Rattle.ruby_meaning.specs.Grammar.Refusals.{most_levels, stand_ins, has_sign, sign_at, is_marked, is_keyword_sign, is_in, is_arrow, is_case, is_jump, last_from, last_seen, IsPatternMatch, IsBehindSubject, IsBehindStatement, ArgumentMayStart, MayFollow, Cases, ConstructAt, GrammarRefusal}
 use Rattle.ruby_meaning.specs.Grammar.Table.{table}
 use Rattle.ruby_meaning.proofs.Grammar.Programs.{one_place}
 use Rattle.ruby_meaning.proofs.Grammar.TableMeets.{predictive}
@@ -92,7 +92,9 @@ decide_follow : (tokens : List Token) (at : ℕ) (signs : List Sign) → Decided
 decide_follow tokens at signs = decide_front (take at (sight tokens) ++ stand_ins signs)
 
 decide_start : (tokens : List Token) (at : ℕ) → Decided (ArgumentMayStart tokens at)
-decide_start tokens at = one_or_other (decide_follow tokens at (sign.Op mark.Ampersand ∷ [])) (both (decide_follow tokens at (sign.Marked mark.Star ∷ [])) (decide_follow tokens at (sign.Label ∷ [])))
+decide_start tokens at =
+    one_or_other (decide_follow tokens at (sign.Op mark.Ampersand ∷ []))
+    (one_or_other (both (decide_follow tokens at (sign.Marked mark.Star ∷ [])) (decide_follow tokens at (sign.Label ∷ []))) (decide_true (has_sign is_jump (last_seen (take at (sight tokens))))))
 
 decide_subject : (tokens : List Token) (at : ℕ) → Decided (IsBehindSubject tokens at)
 decide_subject tokens at =

@@ -65,6 +65,12 @@ abbrev pub is_case : Sign → Bool
 is_case (sign.Keyword word.Case) = true
 is_case _ = false
 
+abbrev pub is_jump : Sign → Bool
+is_jump (sign.Keyword word.Return) = true
+is_jump (sign.Keyword word.Break) = true
+is_jump (sign.Keyword word.Next) = true
+is_jump _ = false
+
 abbrev pub is_separator : Sign → Bool
 is_separator sign.Newline = true
 is_separator (sign.Op mark.Semicolon) = true
@@ -74,6 +80,11 @@ is_separator _ = false
 abbrev pub last_from : Option Seen → List Seen → Option Seen
 last_from found [] = found
 last_from found (t ∷ ts) = last_from (if is_separator t.sign then found else Some t) ts
+
+abbrev pub last_seen : List Seen → Option Seen
+last_seen [] = None
+last_seen (t ∷ []) = Some t
+last_seen (t ∷ u ∷ us) = last_seen (u ∷ us)
 
 -- ---- the constructs
 
@@ -86,10 +97,11 @@ abbrev pub IsAmbiguous : List Token → ℕ → Type 0
 IsAmbiguous tokens at = sign_at is_marked tokens at ≡ true
 
 -- A parameter or an argument of a call may start there, as `&` could stand there; or another argument, as both `*` and a
--- label could.
+-- label could; or it stands directly behind `return`, `break` or `next`.
 abbrev pub ArgumentMayStart : List Token → ℕ → Type 0
 ArgumentMayStart tokens at =
-    MayFollow tokens at (sign.Op mark.Ampersand ∷ []) ⊎ (MayFollow tokens at (sign.Marked mark.Star ∷ []) × MayFollow tokens at (sign.Label ∷ []))
+    MayFollow tokens at (sign.Op mark.Ampersand ∷ []) ⊎ ((MayFollow tokens at (sign.Marked mark.Star ∷ []) × MayFollow tokens at (sign.Label ∷ []))
+    ⊎ (has_sign is_jump (last_seen (take at (sight tokens))) ≡ true))
 
 abbrev pub IsKeywordParameter : List Token → ℕ → Type 0
 IsKeywordParameter tokens at = (sign_at is_keyword_sign tokens at ≡ true) × ArgumentMayStart tokens at
