@@ -5,3 +5,4 @@ pub mod Checks
 pub mod TableMeets
 pub mod Programs
 pub mod Refusals
+pub mod Rows

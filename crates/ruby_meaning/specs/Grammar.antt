@@ -11,3 +11,4 @@ pub mod Statements
 pub mod Table
 pub mod Laws
 pub mod Refusals
+pub mod Rows

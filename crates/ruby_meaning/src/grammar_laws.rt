@@ -2,6 +2,7 @@
 
 ghost use Rattle.ruby_meaning.specs.Grammar.Laws.{OneProgram, SpelledOrRefused, NeverBoth, OnePlace, BeginningsAreFronts, OneTokenTells};
 ghost use Rattle.ruby_meaning.specs.Grammar.Refusals.{OneConstruct, SomeConstruct};
+ghost use Rattle.ruby_meaning.specs.Grammar.Rows.{RefusedRows};
 
 /// Tokens spell one program at most. They spell one within the limit of depth or have one place of
 /// a refusal, and never both.
@@ -26,4 +27,9 @@ pub fn one_token_tells()
 pub fn one_construct()
     ensures one { OneConstruct }
     ensures some { SomeConstruct }
+{}
+
+/// Parameters out of order, and blocks where none may stand, are refused at once.
+pub fn refused_rows()
+    ensures { RefusedRows }
 {}
