@@ -1,2 +1,3 @@
+pub mod Copies
+pub mod Defaults
 pub mod Stack
-pub mod LookedUp

@@ -1,4 +1,4 @@
--- The groups of forms that the walk takes apart.
+-- The forms with several parts, which the walk takes apart each in a function of its own.
 use Rattle.std.specs.Prelude.{Bool, true, false}
 use Rattle.ruby_meaning.specs.declared.tree.Base.TheOpen.{Base-F, Kind-F, ModuleForm-F, Node-F, Params-F}
 use Rattle.ruby_meaning.specs.declared.tree.Base.TheFolds.{fold-Kind}
@@ -8,38 +8,84 @@ use Rattle.ruby_meaning.specs.declared.tree.Kind.{Kind}
 abbrev pub by_form : (Kind-F Bool Bool Bool Bool Bool → Bool) → Kind → Bool
 by_form test = fold-Kind Bool Bool Bool Bool Bool (λ b. false) test (λ m. false) (λ n. false) (λ p. false)
 
-abbrev pub control_form : Kind-F Bool Bool Bool Bool Bool → Bool
-control_form (Kind-F.If a b c) = true
-control_form (Kind-F.While a b c) = true
-control_form (Kind-F.Case a b c) = true
-control_form (Kind-F.When a b) = true
-control_form (Kind-F.Begin a b c d) = true
-control_form (Kind-F.Rescue a b c) = true
-control_form _ = false
+abbrev pub if_form : Kind-F Bool Bool Bool Bool Bool → Bool
+if_form (Kind-F.If a b c) = true
+if_form _ = false
 
-unfoldable pub is_control : Kind → Bool
-is_control = by_form control_form
+unfoldable pub is_if : Kind → Bool
+is_if = by_form if_form
+
+abbrev pub loop_form : Kind-F Bool Bool Bool Bool Bool → Bool
+loop_form (Kind-F.While a b c) = true
+loop_form _ = false
+
+unfoldable pub is_loop : Kind → Bool
+is_loop = by_form loop_form
+
+abbrev pub case_form : Kind-F Bool Bool Bool Bool Bool → Bool
+case_form (Kind-F.Case a b c) = true
+case_form _ = false
+
+unfoldable pub is_case : Kind → Bool
+is_case = by_form case_form
+
+abbrev pub begin_form : Kind-F Bool Bool Bool Bool Bool → Bool
+begin_form (Kind-F.Begin a b c d) = true
+begin_form _ = false
+
+unfoldable pub is_begin : Kind → Bool
+is_begin = by_form begin_form
+
+abbrev pub rescue_form : Kind-F Bool Bool Bool Bool Bool → Bool
+rescue_form (Kind-F.Rescue a b c) = true
+rescue_form _ = false
+
+unfoldable pub is_rescue : Kind → Bool
+is_rescue = by_form rescue_form
+
+abbrev pub attr_form : Kind-F Bool Bool Bool Bool Bool → Bool
+attr_form (Kind-F.AttrSet a b c d) = true
+attr_form (Kind-F.AttrOpSet a b c d e) = true
+attr_form _ = false
+
+unfoldable pub is_attr : Kind → Bool
+is_attr = by_form attr_form
 
 abbrev pub call_form : Kind-F Bool Bool Bool Bool Bool → Bool
-call_form (Kind-F.AttrSet a b c d) = true
-call_form (Kind-F.AttrOpSet a b c d e) = true
 call_form (Kind-F.Call a b c d e) = true
-call_form (Kind-F.Super a b) = true
-call_form (Kind-F.Yield a) = true
 call_form _ = false
 
 unfoldable pub is_call : Kind → Bool
 is_call = by_form call_form
 
-abbrev pub scope_form : Kind-F Bool Bool Bool Bool Bool → Bool
-scope_form (Kind-F.Block a b) = true
-scope_form (Kind-F.Lambda a b) = true
-scope_form (Kind-F.Def a b c d) = true
-scope_form (Kind-F.ModuleDef a b c) = true
-scope_form _ = false
+abbrev pub super_form : Kind-F Bool Bool Bool Bool Bool → Bool
+super_form (Kind-F.Super a b) = true
+super_form _ = false
 
-unfoldable pub is_scope : Kind → Bool
-is_scope = by_form scope_form
+unfoldable pub is_super : Kind → Bool
+is_super = by_form super_form
+
+abbrev pub block_form : Kind-F Bool Bool Bool Bool Bool → Bool
+block_form (Kind-F.Block a b) = true
+block_form (Kind-F.Lambda a b) = true
+block_form _ = false
+
+unfoldable pub is_block : Kind → Bool
+is_block = by_form block_form
+
+abbrev pub def_form : Kind-F Bool Bool Bool Bool Bool → Bool
+def_form (Kind-F.Def a b c d) = true
+def_form _ = false
+
+unfoldable pub is_def : Kind → Bool
+is_def = by_form def_form
+
+abbrev pub module_form : Kind-F Bool Bool Bool Bool Bool → Bool
+module_form (Kind-F.ModuleDef a b c) = true
+module_form _ = false
+
+unfoldable pub is_module : Kind → Bool
+is_module = by_form module_form
 
 abbrev pub pairs_form : Kind-F Bool Bool Bool Bool Bool → Bool
 pairs_form (Kind-F.HashLit a b) = true

@@ -9,4 +9,4 @@ mod pass;
 mod tests;
 mod walk;
 
-pub use pass::{Scoping, find_scopes, first_refusal};
+pub use pass::resolve;

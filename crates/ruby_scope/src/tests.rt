@@ -2,28 +2,29 @@ mod trees;
 
 use crate::around::no_targets;
 use crate::locals::seen::start;
+use crate::resolve;
 use crate::walk::walk_node;
-use crate::{find_scopes, first_refusal};
-use opal_base::{Names, units_to_utf8};
-use ruby_meaning::{Base, JumpKind, Kind, Node, Program, Scopes};
+use opal_base::{Names, NoMemory, Units, units_to_utf8};
+use ruby_meaning::{Base, JumpKind, Kind, Node, Program, Scopes, Stop};
 use sqlite_items::Items;
 use std::alloc::Global;
 use std::test::Fail;
 use trees::{
     bare, block, constant, constant_set, ensure, if_then, jump, lambda, marked, method, node,
-    range, reads, rescue, sets, two, while_loop, with_block, with_text,
+    range, reads, rescue, sets, text, two, while_loop, with_block, with_text,
 };
 
 // What scope refuses in a program, and the column.
 fn refused(alloc: Global, body: Node) -> Result<Vec<u8>, Fail> {
     let mut line = Vec::new(alloc);
-    match first_refusal(alloc, &Program { body })? {
-        Some(refusal) => {
-            line.extend_from_slice(refusal.construct.name().as_bytes())?;
-            let column = format!(in alloc; " {}", refusal.pos.col)?;
+    match resolve(alloc, Program { body }) {
+        Err(Stop::Refused { pos, construct }) => {
+            line.extend_from_slice(construct.name().as_bytes())?;
+            let column = format!(in alloc; " {}", pos.col)?;
             line.extend_from_slice(column.as_bytes())?;
         }
-        None => line.extend_from_slice(b"taken")?,
+        Err(Stop::NoMemory) => return Err(Fail::from(NoMemory)),
+        Ok(_) => line.extend_from_slice(b"taken")?,
     }
     Ok(line)
 }
@@ -270,14 +271,77 @@ fn assignments_in_a_block(rt: HostRuntime) -> Result<(), Fail> {
     Ok(())
 }
 
+// The names of locals and of calls, and the files of requires, one behind the other.
+fn push_shape(alloc: Global, line: &mut Vec<u8>, node: &Node) -> Result<(), Fail> {
+    match node.kind.get() {
+        Kind::LocalGet(name) => push_word(alloc, line, b"local ", name),
+        Kind::Call { name, .. } => push_word(alloc, line, b"call ", name),
+        Kind::Require {
+            name,
+            relative: true,
+        } => push_word(alloc, line, b"relative ", name),
+        Kind::Require {
+            name,
+            relative: false,
+        } => push_word(alloc, line, b"base ", name),
+        _ => Ok(line.extend_from_slice(b"other|")?),
+    }
+}
+
+fn push_word(alloc: Global, line: &mut Vec<u8>, word: &[u8], name: &Units) -> Result<(), Fail> {
+    line.extend_from_slice(word)?;
+    line.extend_from_slice(units_to_utf8(alloc, name)?.as_slice())?;
+    Ok(line.extend_from_slice(b"|")?)
+}
+
+// What a node becomes where these are locals.
+fn resolved_to(alloc: Global, locals: &[&str], node: &Node) -> Result<Vec<u8>, Fail> {
+    let mut seen = start(alloc);
+    for name in locals {
+        seen.own.insert(&text(alloc, *name)?)?;
+    }
+    let made = walk_node(alloc, &mut seen, no_targets(), node)?;
+    let mut line = Vec::new(alloc);
+    push_shape(alloc, &mut line, &made)?;
+    Ok(line)
+}
+
+#[test]
+fn bare_names(rt: HostRuntime) -> Result<(), Fail> {
+    let alloc = rt.alloc();
+    for (name, seen) in [("x", "local x|"), ("y", "call y|")] {
+        let line = resolved_to(alloc, &["x"], &bare(alloc, 3, name)?)?;
+        assert_eq!(rt; line.as_slice(), seen.as_bytes());
+    }
+    Ok(())
+}
+
+#[test]
+fn names_of_requires(rt: HostRuntime) -> Result<(), Fail> {
+    let alloc = rt.alloc();
+    for (name, argument, seen) in [
+        ("require", "a/b", "base a/b.rb|"),
+        ("require", "a.rb", "base a.rb|"),
+        ("require", "opal", "base |"),
+        ("require_relative", "../a", "relative ../a.rb|"),
+        ("require_relative", "opal", "relative opal.rb|"),
+        ("puts", "a", "call puts|"),
+        ("x", "a", "call x|"),
+    ] {
+        let line = resolved_to(alloc, &["x"], &with_text(alloc, name, argument)?)?;
+        assert_eq!(rt; line.as_slice(), seen.as_bytes());
+    }
+    Ok(())
+}
+
 // `puts 'hi'` has one scope without locals and one called name.
 #[test]
 fn one_line(rt: HostRuntime) -> Result<(), Fail> {
     let alloc = rt.alloc();
     let body = with_text(alloc, "puts", "hi")?;
-    let scoping = find_scopes(alloc, &Program { body })?;
-    let mut line = shown(alloc, &scoping.scopes)?;
-    push_names(alloc, &mut line, &scoping.calls)?;
+    let resolved = resolve(alloc, Program { body })?;
+    let mut line = shown(alloc, &resolved.scopes)?;
+    push_names(alloc, &mut line, &resolved.calls)?;
     assert_eq!(rt; line.as_slice(), b"||puts |".as_slice());
     Ok(())
 }

@@ -1,16 +1,18 @@
-//! The walk over a tree in the order of the text.
+//! The walk over a tree in the order of the text. It gives the tree again, with the names of
+//! locals and the calls of `require` told apart from other calls.
 
-ghost use Rattle.std.specs.Prelude.{◌≡◌, map, OnOk, None, true};
+mod copy;
+
+ghost use Rattle.std.specs.Prelude.{◌≡◌, map, OnOk, IfOk, None, true};
 ghost use Rattle.std.specs.Option.{option_map};
 ghost use Rattle.ruby_meaning.specs.Scoping.Walk as spec;
-ghost use Rattle.ruby_meaning.specs.Scoping.Seen.{in_block, in_body};
-ghost use Rattle.ruby_scope.specs.Group.{is_control, is_call, is_scope, is_pairs};
+ghost use Rattle.ruby_scope.specs.Group.{is_if, is_loop, is_case, is_begin, is_rescue, is_attr, is_call, is_super, is_block, is_def, is_module, is_pairs};
 
 use crate::around::{
     as_role, condition_or_plain, has_target, is_condition, is_target, no_targets, plain,
     target_or_plain, within_block, within_def, within_lambda, within_loop, within_rescue,
 };
-use crate::calls::call::{names_local, note, operator_called, setter};
+use crate::calls::call::{names_local, note, operator_called, resolved_call, setter};
 use crate::calls::shape::{is_built, is_here, role_of_args};
 use crate::calls::word::names_thread;
 use crate::locals::parameters::{block_name, names_from, rest_name, slots};
@@ -18,6 +20,7 @@ use crate::locals::scope::{close_block, close_body, open_block, open_body};
 use crate::locals::seen::{
     called, name_local, name_rescued, parameter, refuse_if, stands_before, unbuilt_at,
 };
+use copy::{boxed, copy_name, copy_names, copy_rest, copy_slots, node_like, push};
 use opal_base::{Names, NoMemory, Pos, Units};
 use ruby_meaning::{Around, Base, Construct, Kind, ModuleForm, Node, Params, Role, Seen};
 use sqlite_items::{Boxed, Items};
@@ -31,256 +34,471 @@ pub fn walk_node(
     seen: &mut Seen,
     around: Around,
     node: &Node,
-) -> Result<(), NoMemory>
-    ensures { OnOk result (seen.new ≡ (spec.part None node.now).walk around seen.old) }
+) -> Result<Node, NoMemory>
+    ensures seen { OnOk result (seen.new ≡ ((spec.part None node.now).walk around seen.old).seen) }
+    ensures made { IfOk result (λ made. made ≡ ((spec.part None node.now).walk around seen.old).made) }
 {
     if !is_built(around.role, node.kind.get()) {
         unbuilt_at(seen, node.span.from);
     }
-    walk_form(alloc, seen, around, node.mark, node.kind.get())
+    let kind = walk_form(alloc, seen, around, node.mark, node.kind.get())?;
+    node_like(alloc, kind, node)
 }
 
 // A form, at its mark.
 #[cycle(walk)]
-#[tactic(auto, unfolding(ruby_meaning::specs::Scoping::Walk::part, ruby_meaning::specs::Scoping::Walk::form_part, ruby_meaning::specs::Scoping::Walk::base_part, crate::specs::Group::is_control, crate::specs::Group::is_call, crate::specs::Group::is_scope, crate::specs::Group::is_pairs))]
+#[tactic(auto, unfolding(ruby_meaning::specs::Scoping::Walk::part, ruby_meaning::specs::Scoping::Walk::form_part, ruby_meaning::specs::Scoping::Walk::base_part, ruby_meaning::specs::Scoping::Walk::module_part, ruby_meaning::specs::Scoping::Walk::params_part, crate::specs::Group::is_if, crate::specs::Group::is_loop, crate::specs::Group::is_case, crate::specs::Group::is_begin, crate::specs::Group::is_rescue, crate::specs::Group::is_attr, crate::specs::Group::is_call, crate::specs::Group::is_super, crate::specs::Group::is_block, crate::specs::Group::is_def, crate::specs::Group::is_module, crate::specs::Group::is_pairs))]
 fn walk_form(
     alloc: Global,
     seen: &mut Seen,
     around: Around,
     mark: Pos,
     kind: &Kind,
-) -> Result<(), NoMemory>
-    ensures { OnOk result (seen.new ≡ (spec.form_part None kind.now).walk mark around seen.old) }
+) -> Result<Kind, NoMemory>
+    ensures seen { OnOk result (seen.new ≡ ((spec.form_part None kind.now).walk mark around seen.old).seen) }
+    ensures made { IfOk result (λ made. made ≡ ((spec.form_part None kind.now).walk mark around seen.old).made) }
 {
     let inner = plain(around);
     match kind {
-        Kind::Interp(parts) => walk_all(alloc, seen, inner, parts),
-        Kind::ArrayLit(items) => walk_all(alloc, seen, inner, items),
-        Kind::RangeLit { low, high, .. } => {
+        Kind::Lit(which) => Ok(Kind::Lit(*which)),
+        Kind::SelfRef => Ok(Kind::SelfRef),
+        Kind::Int(value) => Ok(Kind::Int(*value)),
+        Kind::Str(text) => Ok(Kind::Str(text.try_clone()?)),
+        Kind::Interp(parts) => Ok(Kind::Interp(walk_all(alloc, seen, inner, parts)?)),
+        Kind::ArrayLit(items) => Ok(Kind::ArrayLit(walk_all(alloc, seen, inner, items)?)),
+        Kind::HashLit { .. } => walk_pairs(alloc, seen, around, mark, kind),
+        Kind::RangeLit {
+            low,
+            high,
+            without_end,
+        } => {
             refuse_if(seen, is_condition(around.role), mark, Construct::FlipFlop);
-            walk_node(alloc, seen, inner, low.get())?;
-            walk_node(alloc, seen, inner, high.get())
+            let low = walk_boxed(alloc, seen, inner, low)?;
+            let high = walk_boxed(alloc, seen, inner, high)?;
+            Ok(Kind::RangeLit {
+                low,
+                high,
+                without_end: *without_end,
+            })
         }
-        Kind::LocalGet(name) => name_local(seen, name),
+        Kind::LocalGet(name) => {
+            name_local(seen, name)?;
+            Ok(Kind::LocalGet(name.try_clone()?))
+        }
+        Kind::IvarGet(name) => Ok(Kind::IvarGet(name.try_clone()?)),
+        Kind::GlobalGet(name) => Ok(Kind::GlobalGet(name.try_clone()?)),
         Kind::ConstGet { base, name } => walk_const(alloc, seen, around, mark, base, name),
         Kind::LocalSet(name, value) => {
             name_local(seen, name)?;
-            walk_node(alloc, seen, inner, value.get())
+            let value = walk_boxed(alloc, seen, inner, value)?;
+            Ok(Kind::LocalSet(name.try_clone()?, value))
         }
-        Kind::IvarSet(_, value) => walk_node(alloc, seen, inner, value.get()),
-        Kind::GlobalSet(_, value) => walk_node(alloc, seen, inner, value.get()),
-        Kind::ConstSet(_, value) => {
+        Kind::IvarSet(name, value) => {
+            let value = walk_boxed(alloc, seen, inner, value)?;
+            Ok(Kind::IvarSet(name.try_clone()?, value))
+        }
+        Kind::GlobalSet(name, value) => {
+            let value = walk_boxed(alloc, seen, inner, value)?;
+            Ok(Kind::GlobalSet(name.try_clone()?, value))
+        }
+        Kind::ConstSet(name, value) => {
             refuse_if(seen, around.in_def, mark, Construct::DynamicConstant);
-            walk_node(alloc, seen, inner, value.get())
+            let value = walk_boxed(alloc, seen, inner, value)?;
+            Ok(Kind::ConstSet(name.try_clone()?, value))
         }
         Kind::MultiSet { targets, value } => {
-            walk_all(alloc, seen, as_role(Role::Target, around), targets)?;
-            walk_node(alloc, seen, inner, value.get())
+            let targets = walk_all(alloc, seen, as_role(Role::Target, around), targets)?;
+            let value = walk_boxed(alloc, seen, inner, value)?;
+            Ok(Kind::MultiSet { targets, value })
         }
-        Kind::BlockPass(value) => walk_node(alloc, seen, inner, value.get()),
-        Kind::Splat(value) => walk_node(alloc, seen, target_or_plain(around), value.get()),
-        Kind::Not(value) => walk_node(alloc, seen, condition_or_plain(around), value.get()),
+        Kind::AttrSet { .. } | Kind::AttrOpSet { .. } => {
+            walk_attr(alloc, seen, around, mark, kind)
+        }
+        Kind::Call { .. } => walk_call(alloc, seen, around, mark, kind),
+        Kind::Super { .. } => walk_super(alloc, seen, around, mark, kind),
+        Kind::Yield(args) => {
+            refuse_if(seen, !around.in_def, mark, Construct::JumpOutside);
+            Ok(Kind::Yield(walk_all(alloc, seen, inner, args)?))
+        }
+        Kind::Block { .. } | Kind::Lambda { .. } => walk_block(alloc, seen, around, mark, kind),
+        Kind::BlockPass(value) => { Ok(Kind::BlockPass(walk_boxed(alloc, seen, inner, value)?)) }
+        Kind::Splat(value) => {
+            let value = walk_boxed(alloc, seen, target_or_plain(around), value)?;
+            Ok(Kind::Splat(value))
+        }
+        Kind::Not(value) => {
+            let value = walk_boxed(alloc, seen, condition_or_plain(around), value)?;
+            Ok(Kind::Not(value))
+        }
         Kind::And(left, right) => {
-            walk_node(alloc, seen, inner, left.get())?;
-            walk_node(alloc, seen, inner, right.get())
+            let left = walk_boxed(alloc, seen, inner, left)?;
+            let right = walk_boxed(alloc, seen, inner, right)?;
+            Ok(Kind::And(left, right))
         }
         Kind::Or(left, right) => {
-            walk_node(alloc, seen, inner, left.get())?;
-            walk_node(alloc, seen, inner, right.get())
+            let left = walk_boxed(alloc, seen, inner, left)?;
+            let right = walk_boxed(alloc, seen, inner, right)?;
+            Ok(Kind::Or(left, right))
         }
+        Kind::If { .. } => walk_if(alloc, seen, around, mark, kind),
+        Kind::While { .. } => walk_loop(alloc, seen, around, mark, kind),
+        Kind::Case { .. } => walk_case(alloc, seen, around, mark, kind),
+        Kind::When { tests, body } => {
+            let tests = walk_all(alloc, seen, condition_or_plain(around), tests)?;
+            let body = walk_boxed(alloc, seen, inner, body)?;
+            Ok(Kind::When { tests, body })
+        }
+        Kind::Begin { .. } => walk_begin(alloc, seen, around, mark, kind),
+        Kind::Rescue { .. } => walk_rescue(alloc, seen, around, mark, kind),
         Kind::Retry => {
             refuse_if(seen, !around.retries, mark, Construct::JumpOutside);
-            Ok(())
+            Ok(Kind::Retry)
         }
+        Kind::Reraise => Ok(Kind::Reraise),
         Kind::Jump(which, value) => {
-            refuse_if(
-                seen,
-                !has_target(*which, around),
-                mark,
-                Construct::JumpOutside,
-            );
-            walk_node(alloc, seen, inner, value.get())
+            let lost = !has_target(*which, around);
+            refuse_if(seen, lost, mark, Construct::JumpOutside);
+            let value = walk_boxed(alloc, seen, inner, value)?;
+            Ok(Kind::Jump(*which, value))
         }
-        Kind::Seq(items) => walk_all(alloc, seen, inner, items),
-        Kind::Prim { args, .. } => walk_all(alloc, seen, inner, args),
-        Kind::If { .. }
-        | Kind::While { .. }
-        | Kind::Case { .. }
-        | Kind::When { .. }
-        | Kind::Begin { .. }
-        | Kind::Rescue { .. } => walk_control(alloc, seen, around, mark, kind),
-        Kind::AttrSet { .. }
-        | Kind::AttrOpSet { .. }
-        | Kind::Call { .. }
-        | Kind::Super { .. }
-        | Kind::Yield(_) => walk_call(alloc, seen, around, mark, kind),
-        Kind::Block { .. } | Kind::Lambda { .. } | Kind::Def { .. } | Kind::ModuleDef { .. } =>
-            walk_scope(alloc, seen, around, mark, kind),
-        Kind::HashLit { .. } => walk_pairs(alloc, seen, around, mark, kind),
-        Kind::Lit(_)
-        | Kind::SelfRef
-        | Kind::Int(_)
-        | Kind::Str(_)
-        | Kind::IvarGet(_)
-        | Kind::GlobalGet(_)
-        | Kind::Reraise
-        | Kind::Alias { .. }
-        | Kind::Undef(_)
-        | Kind::Require { .. } => Ok(()),
+        Kind::Def { .. } => walk_def(alloc, seen, around, mark, kind),
+        Kind::ModuleDef { .. } => walk_module(alloc, seen, around, mark, kind),
+        Kind::Alias { new, old } => Ok(Kind::Alias {
+            new: new.try_clone()?,
+            old: old.try_clone()?,
+        }),
+        Kind::Undef(names) => Ok(Kind::Undef(copy_names(alloc, names)?)),
+        Kind::Seq(items) => Ok(Kind::Seq(walk_all(alloc, seen, inner, items)?)),
+        Kind::Require { name, relative } => Ok(Kind::Require {
+            name: name.try_clone()?,
+            relative: *relative,
+        }),
+        Kind::Prim { name, args } => {
+            let args = walk_all(alloc, seen, inner, args)?;
+            Ok(Kind::Prim {
+                name: name.try_clone()?,
+                args,
+            })
+        }
     }
 }
 
-// Branches, loops and rescue clauses.
 #[cycle(walk)]
-#[tactic(auto, unfolding(ruby_meaning::specs::Scoping::Walk::part, ruby_meaning::specs::Scoping::Walk::form_part, crate::specs::Group::is_control))]
-fn walk_control(
+fn walk_boxed(
+    alloc: Global,
+    seen: &mut Seen,
+    around: Around,
+    node: &Boxed<Node>,
+) -> Result<Boxed<Node>, NoMemory>
+    ensures seen { OnOk result (seen.new ≡ ((spec.part None node.now).walk around seen.old).seen) }
+    ensures made { IfOk result (λ made. made ≡ ((spec.part None node.now).walk around seen.old).made) }
+{
+    let node = walk_node(alloc, seen, around, node.get())?;
+    boxed(alloc, node)
+}
+
+#[cycle(walk)]
+fn walk_any(
+    alloc: Global,
+    seen: &mut Seen,
+    around: Around,
+    node: &Option<Boxed<Node>>,
+) -> Result<Option<Boxed<Node>>, NoMemory>
+    ensures seen { OnOk result (seen.new ≡ (spec.if_any (option_map (spec.part None) node.now) around seen.old).seen) }
+    ensures made { IfOk result (λ made. made ≡ (spec.if_any (option_map (spec.part None) node.now) around seen.old).made) }
+{
+    match node {
+        Some(node) => {
+            let node = walk_node(alloc, seen, around, node.get())?;
+            Ok(Some(boxed(alloc, node)?))
+        }
+        None => Ok(None),
+    }
+}
+
+#[cycle(walk)]
+fn walk_all(
+    alloc: Global,
+    seen: &mut Seen,
+    around: Around,
+    nodes: &Items<Node>,
+) -> Result<Items<Node>, NoMemory>
+    ensures seen { OnOk result (seen.new ≡ (spec.all (map (spec.part None) nodes.now) around seen.old).seen) }
+    ensures made { IfOk result (λ made. made ≡ (spec.all (map (spec.part None) nodes.now) around seen.old).made) }
+{
+    let mut made = Items::new(alloc);
+    for node in nodes.as_slice() {
+        let node = walk_node(alloc, seen, around, node)?;
+        push(&mut made, node)?;
+    }
+    Ok(made)
+}
+
+// The keys and values of a hash, in turn.
+#[cycle(walk)]
+#[tactic(auto, unfolding(ruby_meaning::specs::Scoping::Walk::part, ruby_meaning::specs::Scoping::Walk::form_part, ruby_meaning::specs::Scoping::Walk::params_part, ruby_meaning::specs::Scoping::Walk::module_part, crate::specs::Group::is_pairs))]
+fn walk_pairs(
     alloc: Global,
     seen: &mut Seen,
     around: Around,
     mark: Pos,
     kind: &Kind,
-) -> Result<(), NoMemory>
-    requires { is_control kind.now ≡ true }
-    ensures { OnOk result (seen.new ≡ (spec.form_part None kind.now).walk mark around seen.old) }
+) -> Result<Kind, NoMemory>
+    requires { is_pairs kind.now ≡ true }
+    ensures seen { OnOk result (seen.new ≡ ((spec.form_part None kind.now).walk mark around seen.old).seen) }
+    ensures made { IfOk result (λ made. made ≡ ((spec.form_part None kind.now).walk mark around seen.old).made) }
+{
+    let inner = plain(around);
+    match kind {
+        Kind::HashLit { keys, values } => {
+            let values = values.as_slice();
+            let mut made_keys = Items::new(alloc);
+            let mut made_values = Items::new(alloc);
+            let mut i = 0;
+            for key in keys.as_slice() {
+                let key = walk_node(alloc, seen, inner, key)?;
+                push(&mut made_keys, key)?;
+                if i < values.len() {
+                    let value = walk_node(alloc, seen, inner, &values[i])?;
+                    push(&mut made_values, value)?;
+                    i += 1;
+                }
+            }
+            Ok(Kind::HashLit {
+                keys: made_keys,
+                values: made_values,
+            })
+        }
+        _ => Err(NoMemory),
+    }
+}
+
+#[cycle(walk)]
+#[tactic(auto, unfolding(ruby_meaning::specs::Scoping::Walk::part, ruby_meaning::specs::Scoping::Walk::form_part, ruby_meaning::specs::Scoping::Walk::params_part, ruby_meaning::specs::Scoping::Walk::module_part, crate::specs::Group::is_if))]
+fn walk_if(
+    alloc: Global,
+    seen: &mut Seen,
+    around: Around,
+    mark: Pos,
+    kind: &Kind,
+) -> Result<Kind, NoMemory>
+    requires { is_if kind.now ≡ true }
+    ensures seen { OnOk result (seen.new ≡ ((spec.form_part None kind.now).walk mark around seen.old).seen) }
+    ensures made { IfOk result (λ made. made ≡ ((spec.form_part None kind.now).walk mark around seen.old).made) }
 {
     let inner = plain(around);
     match kind {
         Kind::If { cond, yes, no } => {
             let test = as_role(Role::Condition, around);
-            let (cond, first, second) = (cond.get(), yes.get(), no.get());
-            if stands_before(second.span.from, first.span.from) {
-                if stands_before(second.span.from, cond.span.from) {
-                    walk_node(alloc, seen, inner, second)?;
-                    if stands_before(first.span.from, cond.span.from) {
-                        walk_node(alloc, seen, inner, first)?;
-                        walk_node(alloc, seen, test, cond)
+            let (from, first, second) = (
+                cond.get().span.from,
+                yes.get().span.from,
+                no.get().span.from,
+            );
+            if stands_before(second, first) {
+                if stands_before(second, from) {
+                    let no = walk_boxed(alloc, seen, inner, no)?;
+                    if stands_before(first, from) {
+                        let yes = walk_boxed(alloc, seen, inner, yes)?;
+                        let cond = walk_boxed(alloc, seen, test, cond)?;
+                        Ok(Kind::If { cond, yes, no })
                     } else {
-                        walk_node(alloc, seen, test, cond)?;
-                        walk_node(alloc, seen, inner, first)
+                        let cond = walk_boxed(alloc, seen, test, cond)?;
+                        let yes = walk_boxed(alloc, seen, inner, yes)?;
+                        Ok(Kind::If { cond, yes, no })
                     }
                 } else {
-                    walk_node(alloc, seen, test, cond)?;
-                    walk_node(alloc, seen, inner, second)?;
-                    walk_node(alloc, seen, inner, first)
+                    let cond = walk_boxed(alloc, seen, test, cond)?;
+                    let no = walk_boxed(alloc, seen, inner, no)?;
+                    let yes = walk_boxed(alloc, seen, inner, yes)?;
+                    Ok(Kind::If { cond, yes, no })
                 }
-            } else if stands_before(first.span.from, cond.span.from) {
-                walk_node(alloc, seen, inner, first)?;
-                if stands_before(second.span.from, cond.span.from) {
-                    walk_node(alloc, seen, inner, second)?;
-                    walk_node(alloc, seen, test, cond)
+            } else if stands_before(first, from) {
+                let yes = walk_boxed(alloc, seen, inner, yes)?;
+                if stands_before(second, from) {
+                    let no = walk_boxed(alloc, seen, inner, no)?;
+                    let cond = walk_boxed(alloc, seen, test, cond)?;
+                    Ok(Kind::If { cond, yes, no })
                 } else {
-                    walk_node(alloc, seen, test, cond)?;
-                    walk_node(alloc, seen, inner, second)
+                    let cond = walk_boxed(alloc, seen, test, cond)?;
+                    let no = walk_boxed(alloc, seen, inner, no)?;
+                    Ok(Kind::If { cond, yes, no })
                 }
             } else {
-                walk_node(alloc, seen, test, cond)?;
-                walk_node(alloc, seen, inner, first)?;
-                walk_node(alloc, seen, inner, second)
+                let cond = walk_boxed(alloc, seen, test, cond)?;
+                let yes = walk_boxed(alloc, seen, inner, yes)?;
+                let no = walk_boxed(alloc, seen, inner, no)?;
+                Ok(Kind::If { cond, yes, no })
             }
         }
-        Kind::While { cond, body, .. } => {
-            let inner = within_loop(around);
-            let test = as_role(Role::Condition, inner);
+        _ => Err(NoMemory),
+    }
+}
+
+#[cycle(walk)]
+#[tactic(auto, unfolding(ruby_meaning::specs::Scoping::Walk::part, ruby_meaning::specs::Scoping::Walk::form_part, ruby_meaning::specs::Scoping::Walk::params_part, ruby_meaning::specs::Scoping::Walk::module_part, crate::specs::Group::is_loop))]
+fn walk_loop(
+    alloc: Global,
+    seen: &mut Seen,
+    around: Around,
+    mark: Pos,
+    kind: &Kind,
+) -> Result<Kind, NoMemory>
+    requires { is_loop kind.now ≡ true }
+    ensures seen { OnOk result (seen.new ≡ ((spec.form_part None kind.now).walk mark around seen.old).seen) }
+    ensures made { IfOk result (λ made. made ≡ ((spec.form_part None kind.now).walk mark around seen.old).made) }
+{
+    let inner = within_loop(around);
+    let test = as_role(Role::Condition, inner);
+    match kind {
+        Kind::While {
+            cond,
+            body,
+            body_first,
+        } => {
+            let body_first = *body_first;
             if stands_before(body.get().span.from, cond.get().span.from) {
-                walk_node(alloc, seen, inner, body.get())?;
-                walk_node(alloc, seen, test, cond.get())
+                let body = walk_boxed(alloc, seen, inner, body)?;
+                let cond = walk_boxed(alloc, seen, test, cond)?;
+                Ok(Kind::While {
+                    cond,
+                    body,
+                    body_first,
+                })
             } else {
-                walk_node(alloc, seen, test, cond.get())?;
-                walk_node(alloc, seen, inner, body.get())
+                let cond = walk_boxed(alloc, seen, test, cond)?;
+                let body = walk_boxed(alloc, seen, inner, body)?;
+                Ok(Kind::While {
+                    cond,
+                    body,
+                    body_first,
+                })
             }
         }
+        _ => Err(NoMemory),
+    }
+}
+
+#[cycle(walk)]
+#[tactic(auto, unfolding(ruby_meaning::specs::Scoping::Walk::part, ruby_meaning::specs::Scoping::Walk::form_part, ruby_meaning::specs::Scoping::Walk::params_part, ruby_meaning::specs::Scoping::Walk::module_part, crate::specs::Group::is_case))]
+fn walk_case(
+    alloc: Global,
+    seen: &mut Seen,
+    around: Around,
+    mark: Pos,
+    kind: &Kind,
+) -> Result<Kind, NoMemory>
+    requires { is_case kind.now ≡ true }
+    ensures seen { OnOk result (seen.new ≡ ((spec.form_part None kind.now).walk mark around seen.old).seen) }
+    ensures made { IfOk result (λ made. made ≡ ((spec.form_part None kind.now).walk mark around seen.old).made) }
+{
+    let inner = plain(around);
+    match kind {
         Kind::Case {
             subject,
             whens,
             otherwise,
         } => {
-            walk_any(alloc, seen, inner, subject)?;
             let test = if subject.is_none() {
                 as_role(Role::Condition, around)
             } else {
                 inner
             };
-            walk_all(alloc, seen, test, whens)?;
-            walk_node(alloc, seen, inner, otherwise.get())
+            let subject = walk_any(alloc, seen, inner, subject)?;
+            let whens = walk_all(alloc, seen, test, whens)?;
+            let otherwise = walk_boxed(alloc, seen, inner, otherwise)?;
+            Ok(Kind::Case {
+                subject,
+                whens,
+                otherwise,
+            })
         }
-        Kind::When { tests, body } => {
-            walk_all(alloc, seen, condition_or_plain(around), tests)?;
-            walk_node(alloc, seen, inner, body.get())
-        }
+        _ => Err(NoMemory),
+    }
+}
+
+#[cycle(walk)]
+#[tactic(auto, unfolding(ruby_meaning::specs::Scoping::Walk::part, ruby_meaning::specs::Scoping::Walk::form_part, ruby_meaning::specs::Scoping::Walk::params_part, ruby_meaning::specs::Scoping::Walk::module_part, crate::specs::Group::is_begin))]
+fn walk_begin(
+    alloc: Global,
+    seen: &mut Seen,
+    around: Around,
+    mark: Pos,
+    kind: &Kind,
+) -> Result<Kind, NoMemory>
+    requires { is_begin kind.now ≡ true }
+    ensures seen { OnOk result (seen.new ≡ ((spec.form_part None kind.now).walk mark around seen.old).seen) }
+    ensures made { IfOk result (λ made. made ≡ ((spec.form_part None kind.now).walk mark around seen.old).made) }
+{
+    let inner = plain(around);
+    match kind {
         Kind::Begin {
             body,
             clauses,
             else_part,
             ensure_part,
         } => {
-            walk_node(alloc, seen, inner, body.get())?;
-            walk_all(alloc, seen, inner, clauses)?;
-            walk_any(alloc, seen, inner, else_part)?;
-            walk_any(alloc, seen, inner, ensure_part)
+            let body = walk_boxed(alloc, seen, inner, body)?;
+            let clauses = walk_all(alloc, seen, inner, clauses)?;
+            let else_part = walk_any(alloc, seen, inner, else_part)?;
+            let ensure_part = walk_any(alloc, seen, inner, ensure_part)?;
+            Ok(Kind::Begin {
+                body,
+                clauses,
+                else_part,
+                ensure_part,
+            })
         }
-        Kind::Rescue {
-            classes,
-            name,
-            body,
-        } => {
-            walk_all(alloc, seen, inner, classes)?;
-            name_rescued(seen, name)?;
-            walk_node(alloc, seen, within_rescue(around), body.get())
-        }
-        Kind::Lit(_)
-        | Kind::SelfRef
-        | Kind::Int(_)
-        | Kind::Str(_)
-        | Kind::Interp(_)
-        | Kind::ArrayLit(_)
-        | Kind::HashLit { .. }
-        | Kind::RangeLit { .. }
-        | Kind::LocalGet(_)
-        | Kind::IvarGet(_)
-        | Kind::GlobalGet(_)
-        | Kind::ConstGet { .. }
-        | Kind::LocalSet(..)
-        | Kind::IvarSet(..)
-        | Kind::GlobalSet(..)
-        | Kind::ConstSet(..)
-        | Kind::MultiSet { .. }
-        | Kind::AttrSet { .. }
-        | Kind::AttrOpSet { .. }
-        | Kind::Call { .. }
-        | Kind::Super { .. }
-        | Kind::Yield(_)
-        | Kind::Block { .. }
-        | Kind::BlockPass(_)
-        | Kind::Lambda { .. }
-        | Kind::Splat(_)
-        | Kind::Not(_)
-        | Kind::And(..)
-        | Kind::Or(..)
-        | Kind::Retry
-        | Kind::Reraise
-        | Kind::Jump(..)
-        | Kind::Def { .. }
-        | Kind::ModuleDef { .. }
-        | Kind::Alias { .. }
-        | Kind::Undef(_)
-        | Kind::Seq(_)
-        | Kind::Require { .. }
-        | Kind::Prim { .. } => Ok(()),
+        _ => Err(NoMemory),
     }
 }
 
-// Calls, `super` and `yield`.
 #[cycle(walk)]
-#[tactic(auto, unfolding(ruby_meaning::specs::Scoping::Walk::part, ruby_meaning::specs::Scoping::Walk::form_part, crate::specs::Group::is_call))]
-fn walk_call(
+#[tactic(auto, unfolding(ruby_meaning::specs::Scoping::Walk::part, ruby_meaning::specs::Scoping::Walk::form_part, ruby_meaning::specs::Scoping::Walk::params_part, ruby_meaning::specs::Scoping::Walk::module_part, crate::specs::Group::is_rescue))]
+fn walk_rescue(
     alloc: Global,
     seen: &mut Seen,
     around: Around,
     mark: Pos,
     kind: &Kind,
-) -> Result<(), NoMemory>
-    requires { is_call kind.now ≡ true }
-    ensures { OnOk result (seen.new ≡ (spec.form_part None kind.now).walk mark around seen.old) }
+) -> Result<Kind, NoMemory>
+    requires { is_rescue kind.now ≡ true }
+    ensures seen { OnOk result (seen.new ≡ ((spec.form_part None kind.now).walk mark around seen.old).seen) }
+    ensures made { IfOk result (λ made. made ≡ ((spec.form_part None kind.now).walk mark around seen.old).made) }
+{
+    let inner = plain(around);
+    match kind {
+        Kind::Rescue {
+            classes,
+            name,
+            body,
+        } => {
+            let classes = walk_all(alloc, seen, inner, classes)?;
+            name_rescued(seen, name)?;
+            let body = walk_boxed(alloc, seen, within_rescue(around), body)?;
+            Ok(Kind::Rescue {
+                classes,
+                name: copy_name(name)?,
+                body,
+            })
+        }
+        _ => Err(NoMemory),
+    }
+}
+
+// `receiver.name = value`, `receiver[args] = value` and the same with an operator.
+#[cycle(walk)]
+#[tactic(auto, unfolding(ruby_meaning::specs::Scoping::Walk::part, ruby_meaning::specs::Scoping::Walk::form_part, ruby_meaning::specs::Scoping::Walk::params_part, ruby_meaning::specs::Scoping::Walk::module_part, crate::specs::Group::is_attr))]
+fn walk_attr(
+    alloc: Global,
+    seen: &mut Seen,
+    around: Around,
+    mark: Pos,
+    kind: &Kind,
+) -> Result<Kind, NoMemory>
+    requires { is_attr kind.now ≡ true }
+    ensures seen { OnOk result (seen.new ≡ ((spec.form_part None kind.now).walk mark around seen.old).seen) }
+    ensures made { IfOk result (λ made. made ≡ ((spec.form_part None kind.now).walk mark around seen.old).made) }
 {
     let inner = plain(around);
     match kind {
@@ -291,9 +509,15 @@ fn walk_call(
             value,
         } => {
             called(seen, &setter(name)?)?;
-            walk_node(alloc, seen, inner, receiver.get())?;
-            walk_all(alloc, seen, inner, args)?;
-            walk_node(alloc, seen, inner, value.get())
+            let receiver = walk_boxed(alloc, seen, inner, receiver)?;
+            let args = walk_all(alloc, seen, inner, args)?;
+            let value = walk_boxed(alloc, seen, inner, value)?;
+            Ok(Kind::AttrSet {
+                receiver,
+                name: name.try_clone()?,
+                args,
+                value,
+            })
         }
         Kind::AttrOpSet {
             receiver,
@@ -305,10 +529,36 @@ fn walk_call(
             called(seen, name)?;
             called(seen, &setter(name)?)?;
             operator_called(alloc, seen, *op)?;
-            walk_node(alloc, seen, inner, receiver.get())?;
-            walk_all(alloc, seen, inner, args)?;
-            walk_node(alloc, seen, inner, value.get())
+            let receiver = walk_boxed(alloc, seen, inner, receiver)?;
+            let args = walk_all(alloc, seen, inner, args)?;
+            let value = walk_boxed(alloc, seen, inner, value)?;
+            Ok(Kind::AttrOpSet {
+                receiver,
+                name: name.try_clone()?,
+                args,
+                op: *op,
+                value,
+            })
         }
+        _ => Err(NoMemory),
+    }
+}
+
+#[cycle(walk)]
+#[tactic(auto, unfolding(ruby_meaning::specs::Scoping::Walk::part, ruby_meaning::specs::Scoping::Walk::form_part, ruby_meaning::specs::Scoping::Walk::params_part, ruby_meaning::specs::Scoping::Walk::module_part, ruby_meaning::specs::Scoping::Walk::call, ruby_meaning::specs::Scoping::Walk::other_call, crate::specs::Group::is_call))]
+fn walk_call(
+    alloc: Global,
+    seen: &mut Seen,
+    around: Around,
+    mark: Pos,
+    kind: &Kind,
+) -> Result<Kind, NoMemory>
+    requires { is_call kind.now ≡ true }
+    ensures seen { OnOk result (seen.new ≡ ((spec.form_part None kind.now).walk mark around seen.old).seen) }
+    ensures made { IfOk result (λ made. made ≡ ((spec.form_part None kind.now).walk mark around seen.old).made) }
+{
+    let inner = plain(around);
+    match kind {
         Kind::Call {
             receiver,
             name,
@@ -317,7 +567,8 @@ fn walk_call(
             marked,
         } => {
             if names_local(seen, receiver, name, args, block) {
-                name_local(seen, name)
+                name_local(seen, name)?;
+                Ok(Kind::LocalGet(name.try_clone()?))
             } else {
                 let test = as_role(role_of_args(receiver, name, args, block), around);
                 note(
@@ -331,263 +582,156 @@ fn walk_call(
                     block,
                     *marked,
                 )?;
-                walk_any(alloc, seen, inner, receiver)?;
-                walk_all(alloc, seen, test, args)?;
-                walk_any(alloc, seen, inner, block)
+                let made_receiver = walk_any(alloc, seen, inner, receiver)?;
+                let made_args = walk_all(alloc, seen, test, args)?;
+                let made_block = walk_any(alloc, seen, inner, block)?;
+                resolved_call(
+                    alloc,
+                    receiver,
+                    name,
+                    args,
+                    *marked,
+                    made_receiver,
+                    made_args,
+                    made_block,
+                )
             }
         }
-        Kind::Super { args, block } => {
-            refuse_if(seen, !around.in_def, mark, Construct::JumpOutside);
-            match args {
-                Some(args) => walk_all(alloc, seen, inner, args)?,
-                None => {}
-            }
-            walk_any(alloc, seen, inner, block)
-        }
-        Kind::Yield(args) => {
-            refuse_if(seen, !around.in_def, mark, Construct::JumpOutside);
-            walk_all(alloc, seen, inner, args)
-        }
-        Kind::Lit(_)
-        | Kind::SelfRef
-        | Kind::Int(_)
-        | Kind::Str(_)
-        | Kind::Interp(_)
-        | Kind::ArrayLit(_)
-        | Kind::HashLit { .. }
-        | Kind::RangeLit { .. }
-        | Kind::LocalGet(_)
-        | Kind::IvarGet(_)
-        | Kind::GlobalGet(_)
-        | Kind::ConstGet { .. }
-        | Kind::LocalSet(..)
-        | Kind::IvarSet(..)
-        | Kind::GlobalSet(..)
-        | Kind::ConstSet(..)
-        | Kind::MultiSet { .. }
-        | Kind::Block { .. }
-        | Kind::BlockPass(_)
-        | Kind::Lambda { .. }
-        | Kind::Splat(_)
-        | Kind::Not(_)
-        | Kind::And(..)
-        | Kind::Or(..)
-        | Kind::If { .. }
-        | Kind::While { .. }
-        | Kind::Case { .. }
-        | Kind::When { .. }
-        | Kind::Begin { .. }
-        | Kind::Rescue { .. }
-        | Kind::Retry
-        | Kind::Reraise
-        | Kind::Jump(..)
-        | Kind::Def { .. }
-        | Kind::ModuleDef { .. }
-        | Kind::Alias { .. }
-        | Kind::Undef(_)
-        | Kind::Seq(_)
-        | Kind::Require { .. }
-        | Kind::Prim { .. } => Ok(()),
+        _ => Err(NoMemory),
     }
 }
 
-// What starts a scope.
 #[cycle(walk)]
-#[tactic(auto, unfolding(ruby_meaning::specs::Scoping::Walk::part, ruby_meaning::specs::Scoping::Walk::form_part, ruby_meaning::specs::Scoping::Walk::params_part, ruby_meaning::specs::Scoping::Walk::module_part, crate::specs::Group::is_scope))]
-fn walk_scope(
+#[tactic(auto, unfolding(ruby_meaning::specs::Scoping::Walk::part, ruby_meaning::specs::Scoping::Walk::form_part, ruby_meaning::specs::Scoping::Walk::params_part, ruby_meaning::specs::Scoping::Walk::module_part, crate::specs::Group::is_super))]
+fn walk_super(
     alloc: Global,
     seen: &mut Seen,
     around: Around,
     mark: Pos,
     kind: &Kind,
-) -> Result<(), NoMemory>
-    requires { is_scope kind.now ≡ true }
-    ensures { OnOk result (seen.new ≡ (spec.form_part None kind.now).walk mark around seen.old) }
+) -> Result<Kind, NoMemory>
+    requires { is_super kind.now ≡ true }
+    ensures seen { OnOk result (seen.new ≡ ((spec.form_part None kind.now).walk mark around seen.old).seen) }
+    ensures made { IfOk result (λ made. made ≡ ((spec.form_part None kind.now).walk mark around seen.old).made) }
 {
     let inner = plain(around);
+    match kind {
+        Kind::Super { args, block } => {
+            refuse_if(seen, !around.in_def, mark, Construct::JumpOutside);
+            let args = match args {
+                Some(args) => Some(walk_all(alloc, seen, inner, args)?),
+                None => None,
+            };
+            let block = walk_any(alloc, seen, inner, block)?;
+            Ok(Kind::Super { args, block })
+        }
+        _ => Err(NoMemory),
+    }
+}
+
+#[cycle(walk)]
+#[tactic(auto, unfolding(ruby_meaning::specs::Scoping::Walk::part, ruby_meaning::specs::Scoping::Walk::form_part, ruby_meaning::specs::Scoping::Walk::params_part, ruby_meaning::specs::Scoping::Walk::module_part, crate::specs::Group::is_block))]
+fn walk_block(
+    alloc: Global,
+    seen: &mut Seen,
+    around: Around,
+    mark: Pos,
+    kind: &Kind,
+) -> Result<Kind, NoMemory>
+    requires { is_block kind.now ≡ true }
+    ensures seen { OnOk result (seen.new ≡ ((spec.form_part None kind.now).walk mark around seen.old).seen) }
+    ensures made { IfOk result (λ made. made ≡ ((spec.form_part None kind.now).walk mark around seen.old).made) }
+{
     match kind {
         Kind::Block { params, body } => {
             let kept = open_block(alloc, seen)?;
-            walk_params(alloc, seen, within_block(around), mark, params)?;
-            walk_node(alloc, seen, within_block(around), body.get())?;
-            close_block(alloc, seen, kept)
+            let params = walk_params(alloc, seen, within_block(around), mark, params)?;
+            let body = walk_boxed(alloc, seen, within_block(around), body)?;
+            close_block(alloc, seen, kept)?;
+            Ok(Kind::Block { params, body })
         }
         Kind::Lambda { params, body } => {
             let kept = open_block(alloc, seen)?;
-            walk_params(alloc, seen, within_lambda(around), mark, params)?;
-            walk_node(alloc, seen, within_lambda(around), body.get())?;
-            close_block(alloc, seen, kept)
+            let params = walk_params(alloc, seen, within_lambda(around), mark, params)?;
+            let body = walk_boxed(alloc, seen, within_lambda(around), body)?;
+            close_block(alloc, seen, kept)?;
+            Ok(Kind::Lambda { params, body })
         }
-        Kind::Def {
-            on,
-            params,
-            body,
-            ..
-        } => {
-            walk_any(alloc, seen, inner, on)?;
-            let kept = open_body(alloc, seen);
-            walk_params(alloc, seen, within_def(), mark, params)?;
-            walk_node(alloc, seen, within_def(), body.get())?;
-            close_body(alloc, seen, kept)
-        }
-        Kind::ModuleDef { form, body, .. } => {
-            refuse_if(seen, around.in_def, mark, Construct::DynamicConstant);
-            walk_module_form(alloc, seen, inner, form)?;
-            walk_module(alloc, seen, body.get())
-        }
-        Kind::Lit(_)
-        | Kind::SelfRef
-        | Kind::Int(_)
-        | Kind::Str(_)
-        | Kind::Interp(_)
-        | Kind::ArrayLit(_)
-        | Kind::HashLit { .. }
-        | Kind::RangeLit { .. }
-        | Kind::LocalGet(_)
-        | Kind::IvarGet(_)
-        | Kind::GlobalGet(_)
-        | Kind::ConstGet { .. }
-        | Kind::LocalSet(..)
-        | Kind::IvarSet(..)
-        | Kind::GlobalSet(..)
-        | Kind::ConstSet(..)
-        | Kind::MultiSet { .. }
-        | Kind::AttrSet { .. }
-        | Kind::AttrOpSet { .. }
-        | Kind::Call { .. }
-        | Kind::Super { .. }
-        | Kind::Yield(_)
-        | Kind::BlockPass(_)
-        | Kind::Splat(_)
-        | Kind::Not(_)
-        | Kind::And(..)
-        | Kind::Or(..)
-        | Kind::If { .. }
-        | Kind::While { .. }
-        | Kind::Case { .. }
-        | Kind::When { .. }
-        | Kind::Begin { .. }
-        | Kind::Rescue { .. }
-        | Kind::Retry
-        | Kind::Reraise
-        | Kind::Jump(..)
-        | Kind::Alias { .. }
-        | Kind::Undef(_)
-        | Kind::Seq(_)
-        | Kind::Require { .. }
-        | Kind::Prim { .. } => Ok(()),
+        _ => Err(NoMemory),
     }
 }
 
-// The keys and values of a hash, in turn.
 #[cycle(walk)]
-#[tactic(auto, unfolding(ruby_meaning::specs::Scoping::Walk::part, ruby_meaning::specs::Scoping::Walk::form_part, crate::specs::Group::is_pairs))]
-fn walk_pairs(
+#[tactic(auto, unfolding(ruby_meaning::specs::Scoping::Walk::part, ruby_meaning::specs::Scoping::Walk::form_part, ruby_meaning::specs::Scoping::Walk::params_part, ruby_meaning::specs::Scoping::Walk::module_part, crate::specs::Group::is_def))]
+fn walk_def(
     alloc: Global,
     seen: &mut Seen,
     around: Around,
     mark: Pos,
     kind: &Kind,
-) -> Result<(), NoMemory>
-    requires { is_pairs kind.now ≡ true }
-    ensures { OnOk result (seen.new ≡ (spec.form_part None kind.now).walk mark around seen.old) }
+) -> Result<Kind, NoMemory>
+    requires { is_def kind.now ≡ true }
+    ensures seen { OnOk result (seen.new ≡ ((spec.form_part None kind.now).walk mark around seen.old).seen) }
+    ensures made { IfOk result (λ made. made ≡ ((spec.form_part None kind.now).walk mark around seen.old).made) }
 {
     let inner = plain(around);
     match kind {
-        Kind::HashLit { keys, values } => {
-            let values = values.as_slice();
-            let mut i = 0;
-            for key in keys.as_slice() {
-                walk_node(alloc, seen, inner, key)?;
-                if i < values.len() {
-                    walk_node(alloc, seen, inner, &values[i])?;
-                    i += 1;
-                }
-            }
-            Ok(())
+        Kind::Def {
+            on,
+            name,
+            params,
+            body,
+        } => {
+            let on = walk_any(alloc, seen, inner, on)?;
+            let kept = open_body(alloc, seen);
+            let params = walk_params(alloc, seen, within_def(), mark, params)?;
+            let body = walk_boxed(alloc, seen, within_def(), body)?;
+            close_body(alloc, seen, kept)?;
+            Ok(Kind::Def {
+                on,
+                name: name.try_clone()?,
+                params,
+                body,
+            })
         }
-        Kind::Lit(_)
-        | Kind::SelfRef
-        | Kind::Int(_)
-        | Kind::Str(_)
-        | Kind::Interp(_)
-        | Kind::ArrayLit(_)
-        | Kind::RangeLit { .. }
-        | Kind::LocalGet(_)
-        | Kind::IvarGet(_)
-        | Kind::GlobalGet(_)
-        | Kind::ConstGet { .. }
-        | Kind::LocalSet(..)
-        | Kind::IvarSet(..)
-        | Kind::GlobalSet(..)
-        | Kind::ConstSet(..)
-        | Kind::MultiSet { .. }
-        | Kind::AttrSet { .. }
-        | Kind::AttrOpSet { .. }
-        | Kind::Call { .. }
-        | Kind::Super { .. }
-        | Kind::Yield(_)
-        | Kind::Block { .. }
-        | Kind::BlockPass(_)
-        | Kind::Lambda { .. }
-        | Kind::Splat(_)
-        | Kind::Not(_)
-        | Kind::And(..)
-        | Kind::Or(..)
-        | Kind::If { .. }
-        | Kind::While { .. }
-        | Kind::Case { .. }
-        | Kind::When { .. }
-        | Kind::Begin { .. }
-        | Kind::Rescue { .. }
-        | Kind::Retry
-        | Kind::Reraise
-        | Kind::Jump(..)
-        | Kind::Def { .. }
-        | Kind::ModuleDef { .. }
-        | Kind::Alias { .. }
-        | Kind::Undef(_)
-        | Kind::Seq(_)
-        | Kind::Require { .. }
-        | Kind::Prim { .. } => Ok(()),
+        _ => Err(NoMemory),
     }
 }
 
 #[cycle(walk)]
-#[tactic(auto, unfolding(ruby_meaning::specs::Scoping::Walk::part))]
-fn walk_all(
+#[tactic(auto, unfolding(ruby_meaning::specs::Scoping::Walk::part, ruby_meaning::specs::Scoping::Walk::form_part, ruby_meaning::specs::Scoping::Walk::params_part, ruby_meaning::specs::Scoping::Walk::module_part, crate::specs::Group::is_module))]
+fn walk_module(
     alloc: Global,
     seen: &mut Seen,
     around: Around,
-    nodes: &Items<Node>,
-) -> Result<(), NoMemory>
-    ensures { OnOk result (seen.new ≡ spec.all (map (spec.part None) nodes.now) around seen.old) }
+    mark: Pos,
+    kind: &Kind,
+) -> Result<Kind, NoMemory>
+    requires { is_module kind.now ≡ true }
+    ensures seen { OnOk result (seen.new ≡ ((spec.form_part None kind.now).walk mark around seen.old).seen) }
+    ensures made { IfOk result (λ made. made ≡ ((spec.form_part None kind.now).walk mark around seen.old).made) }
 {
-    for node in nodes.as_slice() {
-        walk_node(alloc, seen, around, node)?;
-    }
-    Ok(())
-}
-
-#[cycle(walk)]
-#[tactic(auto, unfolding(ruby_meaning::specs::Scoping::Walk::part))]
-fn walk_any(
-    alloc: Global,
-    seen: &mut Seen,
-    around: Around,
-    node: &Option<Boxed<Node>>,
-) -> Result<(), NoMemory>
-    ensures { OnOk result (seen.new ≡ spec.if_any (option_map (spec.part None) node.now) around seen.old) }
-{
-    match node {
-        Some(node) => walk_node(alloc, seen, around, node.get()),
-        None => Ok(()),
+    let inner = plain(around);
+    match kind {
+        Kind::ModuleDef { form, name, body } => {
+            refuse_if(seen, around.in_def, mark, Construct::DynamicConstant);
+            let form = walk_module_form(alloc, seen, inner, form)?;
+            let kept = open_body(alloc, seen);
+            let body = walk_boxed(alloc, seen, no_targets(), body)?;
+            close_body(alloc, seen, kept)?;
+            Ok(Kind::ModuleDef {
+                form,
+                name: name.try_clone()?,
+                body,
+            })
+        }
+        _ => Err(NoMemory),
     }
 }
 
 // Parameters with their defaults in turn.
 #[cycle(walk)]
-#[tactic(auto, using(std::proofs::lemmas::Grind::common_steps, ruby_meaning::proofs::Scoping::Lists::drop_at), unfolding(ruby_meaning::specs::Scoping::Walk::part))]
+#[tactic(auto, using(std::proofs::lemmas::Grind::common_steps, ruby_meaning::proofs::Scoping::Lists::drop_at))]
 fn walk_defaults(
     alloc: Global,
     seen: &mut Seen,
@@ -595,18 +739,22 @@ fn walk_defaults(
     mark: Pos,
     names: &Names,
     defaults: &Items<Node>,
-) -> Result<(), NoMemory>
-    ensures { OnOk result (seen.new ≡ spec.defaults_in_turn mark names.now (map (spec.part None) defaults.now) around seen.old) }
+) -> Result<Items<Node>, NoMemory>
+    ensures seen { OnOk result (seen.new ≡ (spec.defaults_in_turn mark names.now (map (spec.part None) defaults.now) around seen.old).seen) }
+    ensures made { IfOk result (λ made. made ≡ (spec.defaults_in_turn mark names.now (map (spec.part None) defaults.now) around seen.old).made) }
 {
+    let mut made = Items::new(alloc);
     let mut i = 0;
     for value in defaults.as_slice() {
         if i < names.len() {
             parameter(seen, mark, names.at(i))?;
             i += 1;
         }
-        walk_node(alloc, seen, around, value)?;
+        let value = walk_node(alloc, seen, around, value)?;
+        push(&mut made, value)?;
     }
-    names_from(seen, mark, names, i)
+    names_from(seen, mark, names, i)?;
+    Ok(made)
 }
 
 #[cycle(walk)]
@@ -617,11 +765,12 @@ fn walk_params(
     around: Around,
     mark: Pos,
     params: &Params,
-) -> Result<(), NoMemory>
-    ensures { OnOk result (seen.new ≡ spec.params_part None params.now mark around seen.old) }
+) -> Result<Params, NoMemory>
+    ensures seen { OnOk result (seen.new ≡ (spec.params_part None params.now mark around seen.old).seen) }
+    ensures made { IfOk result (λ made. made ≡ (spec.params_part None params.now mark around seen.old).made) }
 {
     slots(seen, mark, &params.plain)?;
-    walk_defaults(
+    let defaults = walk_defaults(
         alloc,
         seen,
         around,
@@ -631,7 +780,15 @@ fn walk_params(
     )?;
     rest_name(seen, mark, &params.rest)?;
     slots(seen, mark, &params.after)?;
-    block_name(seen, mark, &params.block)
+    block_name(seen, mark, &params.block)?;
+    Ok(Params {
+        plain: copy_slots(alloc, &params.plain)?,
+        optional: copy_names(alloc, &params.optional)?,
+        defaults,
+        rest: copy_rest(&params.rest)?,
+        after: copy_slots(alloc, &params.after)?,
+        block: copy_name(&params.block)?,
+    })
 }
 
 #[cycle(walk)]
@@ -643,16 +800,31 @@ fn walk_const(
     mark: Pos,
     base: &Base,
     name: &Units,
-) -> Result<(), NoMemory>
-    ensures { OnOk result (seen.new ≡ spec.constant (spec.base_part None base.now) name.now mark around seen.old) }
+) -> Result<Kind, NoMemory>
+    ensures seen { OnOk result (seen.new ≡ (spec.constant (spec.base_part None base.now) name.now mark around seen.old).seen) }
+    ensures made { IfOk result (λ made. made ≡ (spec.constant (spec.base_part None base.now) name.now mark around seen.old).made) }
 {
     let threaded = is_here(base) && names_thread(name.as_slice());
     let assigned = is_target(around.role) && around.in_def;
     refuse_if(seen, threaded, mark, Construct::ThreadOrFiber);
     refuse_if(seen, assigned, mark, Construct::DynamicConstant);
+    let base = walk_base(alloc, seen, plain(around), base)?;
+    Ok(Kind::ConstGet {
+        base,
+        name: name.try_clone()?,
+    })
+}
+
+#[cycle(walk)]
+#[tactic(auto, unfolding(ruby_meaning::specs::Scoping::Walk::part, ruby_meaning::specs::Scoping::Walk::base_part))]
+fn walk_base(alloc: Global, seen: &mut Seen, around: Around, base: &Base) -> Result<Base, NoMemory>
+    ensures seen { OnOk result (seen.new ≡ ((spec.base_part None base.now).walk around seen.old).seen) }
+    ensures made { IfOk result (λ made. made ≡ ((spec.base_part None base.now).walk around seen.old).made) }
+{
     match base {
-        Base::Here | Base::Top => Ok(()),
-        Base::In(node) => walk_node(alloc, seen, plain(around), node.get()),
+        Base::Here => Ok(Base::Here),
+        Base::Top => Ok(Base::Top),
+        Base::In(node) => Ok(Base::In(walk_boxed(alloc, seen, around, node)?)),
     }
 }
 
@@ -663,22 +835,17 @@ fn walk_module_form(
     seen: &mut Seen,
     around: Around,
     form: &ModuleForm,
-) -> Result<(), NoMemory>
-    ensures { OnOk result (seen.new ≡ spec.module_part None form.now around seen.old) }
+) -> Result<ModuleForm, NoMemory>
+    ensures seen { OnOk result (seen.new ≡ (spec.module_part None form.now around seen.old).seen) }
+    ensures made { IfOk result (λ made. made ≡ (spec.module_part None form.now around seen.old).made) }
 {
     match form {
-        ModuleForm::Class(superclass) => walk_any(alloc, seen, around, superclass),
-        ModuleForm::Module => Ok(()),
-        ModuleForm::Singleton(node) => walk_node(alloc, seen, around, node.get()),
+        ModuleForm::Class(superclass) => {
+            Ok(ModuleForm::Class(walk_any(alloc, seen, around, superclass)?))
+        }
+        ModuleForm::Module => Ok(ModuleForm::Module),
+        ModuleForm::Singleton(node) => {
+            Ok(ModuleForm::Singleton(walk_boxed(alloc, seen, around, node)?))
+        }
     }
-}
-
-// The body of a class or a module.
-#[cycle(walk)]
-fn walk_module(alloc: Global, seen: &mut Seen, body: &Node) -> Result<(), NoMemory>
-    ensures { OnOk result (seen.new ≡ in_body ((spec.part None body.now).walk spec.no_targets) seen.old) }
-{
-    let kept = open_body(alloc, seen);
-    walk_node(alloc, seen, no_targets(), body)?;
-    close_body(alloc, seen, kept)
 }

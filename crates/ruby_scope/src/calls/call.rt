@@ -4,14 +4,16 @@ ghost use Rattle.std.specs.Prelude.{◌≡◌, ◌++◌, ◌||◌, ◌&&◌, not
 ghost use Rattle.std.specs.Option.{option_map};
 ghost use Rattle.ruby_meaning.specs.Scoping.Walk as spec;
 ghost use Rattle.ruby_meaning.specs.Scoping.Seen.{called};
+ghost use Rattle.ruby_meaning.specs.Scoping.Requires.{required_name};
+ghost use Rattle.ruby_meaning.specs.declared.tree.Kind.TheVariants as kinds;
 
 use crate::around::is_target;
-use crate::calls::path::names_file;
+use crate::calls::path::{names_file, required_name};
 use crate::calls::shape::{is_literal_block, only_text};
 use crate::calls::word::{is_eval, is_inner_eval, names_lambda, names_relative, names_require};
 use crate::locals::seen::{called, is_local, refuse_if};
 use opal_base::{NoMemory, Pos, Units};
-use ruby_meaning::{Construct, Node, Operator, Role, Seen};
+use ruby_meaning::{Construct, Kind, Node, Operator, Role, Seen};
 use sqlite_items::{Boxed, Items};
 use std::alloc::Global;
 
@@ -199,5 +201,53 @@ pub fn note(
             block,
             marked,
         )
+    }
+}
+
+// The text of a `require`, and that of any other argument is empty.
+fn text_or_empty(alloc: Global, args: &Items<Node>) -> Result<Units, NoMemory>
+    ensures { IfOk result (λ text. text ≡ spec.text_or_empty (spec.only_text (map (spec.part None) args.now))) }
+{
+    match only_text(args) {
+        Some(text) => text.try_clone(),
+        None => Ok(Units::new(alloc)),
+    }
+}
+
+fn require(alloc: Global, name: &Units, args: &Items<Node>) -> Result<Kind, NoMemory>
+    ensures { IfOk result (λ kind. kind ≡ kinds.Require (required_name (spec.is_relative name.now) (spec.text_or_empty (spec.only_text (map (spec.part None) args.now)))) (spec.is_relative name.now)) }
+{
+    let relative = names_relative(name.as_slice());
+    let text = text_or_empty(alloc, args)?;
+    Ok(Kind::Require {
+        name: required_name(alloc, relative, &text)?,
+        relative,
+    })
+}
+
+/// A `require`, or a call with its parts.
+#[tactic(auto, unfolding(ruby_meaning::specs::Scoping::Walk::resolved_call))]
+pub fn resolved_call(
+    alloc: Global,
+    receiver: &Option<Boxed<Node>>,
+    name: &Units,
+    args: &Items<Node>,
+    marked: Option<Pos>,
+    made_receiver: Option<Boxed<Node>>,
+    made_args: Items<Node>,
+    made_block: Option<Boxed<Node>>,
+) -> Result<Kind, NoMemory>
+    ensures { IfOk result (λ kind. kind ≡ spec.resolved_call (is_none (option_map (spec.part None) receiver.now) && spec.is_require name.now) name.now (spec.only_text (map (spec.part None) args.now)) marked made_receiver made_args made_block) }
+{
+    if is_lone_require(receiver, name) {
+        require(alloc, name, args)
+    } else {
+        Ok(Kind::Call {
+            receiver: made_receiver,
+            name: name.try_clone()?,
+            args: made_args,
+            block: made_block,
+            marked,
+        })
     }
 }

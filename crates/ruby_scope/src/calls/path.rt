@@ -79,7 +79,7 @@ fn stays_within(alloc: Global, first: Option<usize>, path: &[u16]) -> Result<boo
 
 /// The name of the file: `.rb` is added where it isn't the end.
 #[tactic(auto, unfolding(ruby_meaning::specs::Scoping::Requires::file_name))]
-pub fn file_name(text: &Units) -> Result<Units, NoMemory>
+fn file_name(text: &Units) -> Result<Units, NoMemory>
     ensures { IfOk result (λ name. name ≡ spec.file_name text.now) }
 {
     let mut name = text.try_clone()?;
@@ -107,4 +107,16 @@ pub fn names_file(alloc: Global, relative: bool, text: &Units) -> Result<bool, N
         if relative { None } else { Some(0) },
         name.as_slice(),
     )
+}
+
+/// The name that a `require` keeps.
+#[tactic(auto, unfolding(ruby_meaning::specs::Scoping::Requires::required_name))]
+pub fn required_name(alloc: Global, relative: bool, text: &Units) -> Result<Units, NoMemory>
+    ensures { IfOk result (λ name. name ≡ spec.required_name relative text.now) }
+{
+    if !relative && text.as_slice() == [111, 112, 97, 108].as_slice() {
+        Ok(Units::new(alloc))
+    } else {
+        file_name(text)
+    }
 }
