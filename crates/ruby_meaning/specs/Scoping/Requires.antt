@@ -7,6 +7,10 @@ use Rattle.ruby_meaning.specs.Scoping.Names.{Name}
 unfoldable pub file_name : Name → Name
 file_name text = if bytes_eq (drop (length text - 3) text) (codes ".rb") then text else text ++ codes ".rb"
 
+-- The name that a `require` keeps. `require 'opal'` names no file.
+unfoldable pub required_name : Bool → Name → Name
+required_name relative text = if not relative && bytes_eq text (codes "opal") then [] else file_name text
+
 -- the segments of a path: `part` holds the units of the segment that was begun
 abbrev pub segments : Name → List ℕ → List Name
 segments part [] = part ∷ []

@@ -4,6 +4,7 @@ use Rattle.opal_base.specs.declared.place.Pos.{Pos}
 use Rattle.ruby_meaning.specs.declared.construct.Construct.{Construct}
 use Rattle.ruby_meaning.specs.declared.construct.Construct.TheVariants as construct
 use Rattle.ruby_meaning.specs.declared.scope.Refusal.{Refusal}
+use Rattle.ruby_meaning.specs.declared.scope.Resolved.{Resolved}
 use Rattle.ruby_meaning.specs.declared.scope.Scope.{Scope}
 use Rattle.ruby_meaning.specs.declared.scope.Seen.{Seen}
 use Rattle.ruby_meaning.specs.declared.tree.Program.{Program}
@@ -16,7 +17,11 @@ start = record { own = []; params = []; named = []; outer = []; scopes = []; cal
 
 -- what the whole text says
 abbrev pub seen : Option ℕ → Program → Seen
-seen below program = (part below program.body).walk no_targets start
+seen below program = ((part below program.body).walk no_targets start).seen
+
+-- the program in which bare names of locals and calls of `require` are told apart from other calls
+abbrev pub resolved_program : Program → Program
+resolved_program program = record { body = ((part None program.body).walk no_targets start).made }
 
 -- a form that isn't built is refused where nothing else is
 abbrev pub or_unbuilt : Option Refusal → Option Pos → Option Refusal
@@ -42,8 +47,11 @@ OwnScopeFault program pos c = own_scope_fault program ≡ Some (record { pos = p
 abbrev pub scopes_of : Seen → List Scope
 scopes_of s = record { own = s.own; outer = s.named } ∷ s.scopes
 
--- a program that isn't refused, with its scopes and the names that it calls
-pub record Scoped (program : Program) (scopes : List Scope) (calls : List Name) : Type 0 where
+-- A program that isn't refused: with its names resolved, with its scopes and the names that it calls. Places for a source
+-- map aren't given yet.
+pub record Scoped (program : Program) (resolved : Resolved) : Type 0 where
   pub taken : own_scope_fault program ≡ None
-  pub scopes_are : scopes ≡ scopes_of (seen None program)
-  pub calls_are : calls ≡ (seen None program).calls
+  pub program_is : resolved.program ≡ resolved_program program
+  pub scopes_are : resolved.scopes ≡ scopes_of (seen None program)
+  pub calls_are : resolved.calls ≡ (seen None program).calls
+  pub sites_are : resolved.sites ≡ []

@@ -98,11 +98,3 @@ body_closed own params named outer scopes inner = record inner {
   outer = outer;
   scopes = scopes ++ record { own = inner.own; outer = inner.named } ∷ inner.scopes;
 }
-
--- a block or a lambda sees the scope around it
-abbrev pub in_block : (Seen → Seen) → Seen → Seen
-in_block body s = block_closed s.params s.named s.scopes (body (opened (s.outer ++ s.own ∷ []) s))
-
--- a `def`, a class and a module see none
-abbrev pub in_body : (Seen → Seen) → Seen → Seen
-in_body body s = body_closed s.own s.params s.named s.outer s.scopes (body (opened [] s))

@@ -1,0 +1,6 @@
+//! Calls and what they require.
+
+pub mod call;
+pub mod path;
+pub mod shape;
+pub mod word;

@@ -1,0 +1,5 @@
+//! Locals and scopes.
+
+pub mod parameters;
+pub mod scope;
+pub mod seen;
