@@ -13,7 +13,9 @@ use ruby_meaning::{Construct, Form, Spot, Stand, Stop, Token, TokenKind, Tokens}
 use std::alloc::Global;
 
 fn token_at(spot: &Spot, slice: &[u16], rest: &[u16], kind: TokenKind) -> Token
-    requires { spot.now.at + length slice.now < 2 ^ 31 }
+    requires at { spot.now.at + length slice.now < 2 ^ 31 }
+    requires line { spot.now.pos.line ≤ spot.now.at }
+    requires col { spot.now.pos.col ≤ spot.now.at }
     ensures { result ≡ token_at spot.now slice.now rest.now kind }
 {
     Token {
@@ -21,6 +23,7 @@ fn token_at(spot: &Spot, slice: &[u16], rest: &[u16], kind: TokenKind) -> Token
         from: spot.at,
         to: spot.at + slice.len() as u32,
         pos: spot.pos,
+        end: place_from(spot.pos, slice),
         blank_before: is_blank(spot.behind),
         blank_after: blank_len(rest) != 0,
     }
@@ -37,6 +40,8 @@ fn emit(
 ) -> Result<(), NoMemory>
     requires at { spot.now.at + length slice.now < 2 ^ 31 }
     requires some { 0 < length slice.now }
+    requires line { spot.now.pos.line ≤ spot.now.at }
+    requires col { spot.now.pos.col ≤ spot.now.at }
     ensures ok { OnOk result (tokens.new ≡ tokens.old ++ token_if spot.now slice.now rest.now (kind_of form slice.now)) }
 {
     if let Some(kind) = kind_of(alloc, form, slice)? {

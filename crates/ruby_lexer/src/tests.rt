@@ -179,7 +179,7 @@ fn reads_places_behind_pairs(rt: HostRuntime) -> Result<(), Fail> {
     Ok(())
 }
 
-/// The span, the place and the two flags of each token.
+/// The span, the two places and the two flags of each token.
 fn placed(alloc: Global, text: &str) -> Result<String, Fail> {
     let units = utf8_to_units(alloc, text.as_bytes())?;
     let mut out = String::new(alloc);
@@ -191,9 +191,10 @@ fn placed(alloc: Global, text: &str) -> Result<String, Fail> {
             let token = tokens.at(i);
             let (from, to) = (token.from, token.to);
             let (line, col) = (token.pos.line, token.pos.col);
+            let (last_line, last_col) = (token.end.line, token.end.col);
             let before = if token.blank_before { "_" } else { "" };
             let behind = if token.blank_after { "_" } else { "" };
-            let place = format!(in alloc; "{before}{from}-{to}@{line}:{col}{behind};")?;
+            let place = format!(in alloc; "{before}{from}-{to}@{line}:{col}-{last_line}:{last_col}{behind};")?;
             out.push_str(place.as_str())?;
         }
     }
@@ -203,20 +204,21 @@ fn placed(alloc: Global, text: &str) -> Result<String, Fail> {
 #[test]
 fn tells_places(rt: HostRuntime) -> Result<(), Fail> {
     let rows = [
-        ("", "0-0@0:0;"),
-        ("a -b", "0-1@0:0_;_2-3@0:2;3-4@0:3;4-4@0:4;"),
-        ("'💎' x\n y", "0-4@0:0_;_5-6@0:5;6-7@0:6_;_8-9@1:1;9-9@1:2;"),
+        ("", "0-0@0:0-0:0;"),
+        ("a -b", "0-1@0:0-0:1_;_2-3@0:2-0:3;3-4@0:3-0:4;4-4@0:4-0:4;"),
+        ("'💎' x\n y", "0-4@0:0-0:4_;_5-6@0:5-0:6;6-7@0:6-1:0_;_8-9@1:1-1:2;9-9@1:2-1:2;"),
         (
             "\"a #{b} \"",
-            "0-1@0:0;1-3@0:1;3-5@0:3;5-6@0:5;6-7@0:6_;7-8@0:7;8-9@0:8;9-9@0:9;",
+            "0-1@0:0-0:1;1-3@0:1-0:3;3-5@0:3-0:5;5-6@0:5-0:6;6-7@0:6-0:7_;7-8@0:7-0:8;8-9@0:8-0:9;9-9@0:9-0:9;",
         ),
-        ("a\r\nb\\\n c", "0-1@0:0;1-3@0:1;3-4@1:0_;_7-8@2:1;8-8@2:2;"),
+        ("a\r\nb\\\n c", "0-1@0:0-0:1;1-3@0:1-1:0;3-4@1:0-1:1_;_7-8@2:1-2:2;8-8@2:2-2:2;"),
         (
             "\u{feff}%w[a b]",
-            "1-4@0:1;4-5@0:4_;6-7@0:6;7-8@0:7;8-8@0:8;",
+            "1-4@0:1-0:4;4-5@0:4-0:5_;6-7@0:6-0:7;7-8@0:7-0:8;8-8@0:8-0:8;",
         ),
-        ("a # b\n__END__\nc", "0-1@0:0_;5-6@0:5;6-6@1:0;"),
-        ("=begin\n=end\n :\"x\" ", "_13-17@2:1_;_18-18@2:6;"),
+        ("a # b\n__END__\nc", "0-1@0:0-0:1_;5-6@0:5-1:0;6-6@1:0-1:0;"),
+        ("=begin\n=end\n :\"x\" ", "_13-17@2:1-2:5_;_18-18@2:6-2:6;"),
+        ("'a\nbc' d", "0-6@0:0-1:3_;_7-8@1:4-1:5;8-8@1:5-1:5;"),
     ];
     for (text, want) in rows {
         assert_eq!(rt; placed(rt.alloc(), text)?.as_str(), want, "of {text:?}");

@@ -191,14 +191,16 @@ pub enum TokenKind {
     Eof,
 }
 
-/// A token: its slice is that from unit `from` up to unit `to`, and `pos` the place of its first
-/// unit. The flags tell whether a blank stands directly before it and directly behind it.
+/// A token: its slice is that from unit `from` up to unit `to`, `pos` the place of its first unit
+/// and `end` the place behind its last. The flags tell whether a blank stands directly before it
+/// and directly behind it.
 #[derive(Drop)]
 pub struct Token {
     pub kind: TokenKind,
     pub from: u32,
     pub to: u32,
     pub pos: Pos,
+    pub end: Pos,
     pub blank_before: bool,
     pub blank_after: bool,
 }

@@ -69,6 +69,7 @@ all_if whole s slice rest (Some k) ts one all = (one k, all)
 placed_from : (whole : List ℕ) (s : Spot) (text : List ℕ) (ps : List Piece) (e : Spot) (rest : List ℕ) (tail : List Token)
     → Reaches s text ps e rest → At whole s text → (At whole e rest → AllByRecursion (IsPlaced whole) tail)
     → AllByRecursion (IsPlaced whole) (tokens_of s text ps ++ tail)
+unfolding after
 placed_from whole s text [] e rest tail h at last = last (subst (λ t. At whole e t) h.1 (subst (λ v. At whole v text) h.0 at))
 placed_from whole s text (p ∷ ps) e rest tail h at last =
     let behind : drop (length p.slice) text ≡ h.0 = ap (drop (length p.slice)) h.1 ∙ drop-append_seam p.slice h.0 in
@@ -76,11 +77,12 @@ placed_from whole s text (p ∷ ps) e rest tail h at last =
     let tails = placed_from whole (after s p.form p.slice) (drop (length p.slice) text) ps e rest tail (subst (λ t. Reaches (after s p.form p.slice) t ps e rest) (sym behind) h.3) next last in
     subst (AllByRecursion (IsPlaced whole)) (sym (append_assoc (token_if s p.slice (drop (length p.slice) text) (kind_of p.form p.slice)) _ tail))
     (all_if whole s p.slice (drop (length p.slice) text) (kind_of p.form p.slice) _
-    (λ k. record { order = omega arith; within = subst (λ n. n ≤ length whole) (after_at s p.form p.slice) next.within; place = at_place whole s text at }) tails)
+    (λ k. record { order = omega arith; within = subst (λ n. n ≤ length whole) (after_at s p.form p.slice) next.within; place = at_place whole s text at;
+      end = at_place whole (after s p.form p.slice) (drop (length p.slice) text) next ∙ ap (place_at whole) (after_at s p.form p.slice) }) tails)
 
 pub placed : Placed
 placed text tokens h =
     subst (AllByRecursion (IsPlaced text)) (sym h.same)
     (placed_from text start text h.pieces h.end h.rest (token_at h.end [] [] kind.Eof ∷ []) h.reaches
     (record { within = omega arith; front = []; split = refl; size = refl; place = refl })
-    (λ at. (record { order = omega arith; within = omega (arith, at.within); place = at_place text h.end h.rest at }, tt)))
+    (λ at. (record { order = omega arith; within = omega (arith, at.within); place = at_place text h.end h.rest at; end = at_place text h.end h.rest at ∙ ap (place_at text) (omega arith) }, tt)))

@@ -43,9 +43,9 @@ make k s m = record { kind = k; span = s; mark = m }
 abbrev pub start : Seen → Pos
 start t = t.token.pos
 
--- the place behind a token that stands on one line
+-- the place behind a token
 abbrev pub behind_token : Seen → Pos
-behind_token t = record { line = t.token.pos.line; col = t.token.pos.col + (t.token.to - t.token.from) }
+behind_token t = t.token.end
 
 abbrev pub span_of : Seen → Span
 span_of t = record { from = start t; to = behind_token t }

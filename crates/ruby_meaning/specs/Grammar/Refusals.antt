@@ -15,15 +15,15 @@ use Rattle.ruby_meaning.specs.Grammar.Actions.{no_place}
 use Rattle.ruby_meaning.specs.Grammar.Table.{table}
 use Rattle.ruby_meaning.specs.Grammar.Laws.{whole_file, sight, GrammarFault}
 
--- more levels than the nodes of a file can have, which has fewer than 2^31 tokens
+-- more levels than a front has which is within the limit but for its last token
 abbrev pub most_levels : ℕ
-most_levels = 4294967295
+most_levels = 4294967294
 
 -- ---- what could stand at the place
 
 -- a token of that sign, which has no place in the text
 abbrev pub stand_in : Sign → Seen
-stand_in s = record { token = record { kind = kind.Eof; from = 0; to = 0; pos = no_place; blank_before = true; blank_after = true }; sign = s }
+stand_in s = record { token = record { kind = kind.Eof; from = 0; to = 0; pos = no_place; end = no_place; blank_before = true; blank_after = true }; sign = s }
 
 abbrev pub stand_ins : List Sign → List Seen
 stand_ins [] = []

@@ -15,7 +15,7 @@ use Rattle.ruby_meaning.specs.Grammar.Table.{table}
 use Rattle.ruby_meaning.specs.Grammar.Laws.{whole_file, limit}
 
 abbrev pub seen_as : TokenKind → Sign → Seen
-seen_as k s = record { token = record { kind = k; from = 0; to = 0; pos = no_place; blank_before = true; blank_after = true }; sign = s }
+seen_as k s = record { token = record { kind = k; from = 0; to = 0; pos = no_place; end = no_place; blank_before = true; blank_after = true }; sign = s }
 
 abbrev pub name : Seen
 name = seen_as (kind.Name (codes "x")) sign.Name

@@ -33,11 +33,12 @@ SomeLexing = (text : List ℕ) → ((tokens : List Token) × Lexes text tokens) 
 abbrev pub Joined : Type 0
 Joined = (text : List ℕ) (tokens : List Token) (h : Lexes text tokens) → (text ≡ flat_map (λ p. p.slice) h.pieces ++ h.rest) × (is_over h.rest ≡ true)
 
--- A token's span lies in the text, and its place is that of its first unit.
+-- A token's span lies in the text, and its places are those of its first unit and of what stands behind its last.
 pub record IsPlaced (text : List ℕ) (token : Token) : Type 0 where
   pub order : token.from ≤ token.to
   pub within : token.to ≤ length text
   pub place : token.pos ≡ place_at text token.from
+  pub end : token.end ≡ place_at text token.to
 
 abbrev pub Placed : Type 0
 Placed = (text : List ℕ) (tokens : List Token) → Lexes text tokens → AllByRecursion (IsPlaced text) tokens

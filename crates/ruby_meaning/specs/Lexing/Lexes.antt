@@ -182,6 +182,7 @@ token_at s slice rest k = record {
   from = s.at;
   to = s.at + length slice;
   pos = s.pos;
+  end = place_from s.pos slice;
   blank_before = is_blank s.behind;
   blank_after = not (blank_len rest == 0);
 }
