@@ -194,7 +194,9 @@ fn placed(alloc: Global, text: &str) -> Result<String, Fail> {
             let (last_line, last_col) = (token.end.line, token.end.col);
             let before = if token.blank_before { "_" } else { "" };
             let behind = if token.blank_after { "_" } else { "" };
-            let place = format!(in alloc; "{before}{from}-{to}@{line}:{col}-{last_line}:{last_col}{behind};")?;
+            let place = format!(in alloc;
+                "{before}{from}-{to}@{line}:{col}-{last_line}:{last_col}{behind};"
+            )?;
             out.push_str(place.as_str())?;
         }
     }
@@ -206,12 +208,18 @@ fn tells_places(rt: HostRuntime) -> Result<(), Fail> {
     let rows = [
         ("", "0-0@0:0-0:0;"),
         ("a -b", "0-1@0:0-0:1_;_2-3@0:2-0:3;3-4@0:3-0:4;4-4@0:4-0:4;"),
-        ("'💎' x\n y", "0-4@0:0-0:4_;_5-6@0:5-0:6;6-7@0:6-1:0_;_8-9@1:1-1:2;9-9@1:2-1:2;"),
+        (
+            "'💎' x\n y",
+            "0-4@0:0-0:4_;_5-6@0:5-0:6;6-7@0:6-1:0_;_8-9@1:1-1:2;9-9@1:2-1:2;",
+        ),
         (
             "\"a #{b} \"",
             "0-1@0:0-0:1;1-3@0:1-0:3;3-5@0:3-0:5;5-6@0:5-0:6;6-7@0:6-0:7_;7-8@0:7-0:8;8-9@0:8-0:9;9-9@0:9-0:9;",
         ),
-        ("a\r\nb\\\n c", "0-1@0:0-0:1;1-3@0:1-1:0;3-4@1:0-1:1_;_7-8@2:1-2:2;8-8@2:2-2:2;"),
+        (
+            "a\r\nb\\\n c",
+            "0-1@0:0-0:1;1-3@0:1-1:0;3-4@1:0-1:1_;_7-8@2:1-2:2;8-8@2:2-2:2;",
+        ),
         (
             "\u{feff}%w[a b]",
             "1-4@0:1-0:4;4-5@0:4-0:5_;6-7@0:6-0:7;7-8@0:7-0:8;8-8@0:8-0:8;",

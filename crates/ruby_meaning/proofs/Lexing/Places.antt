@@ -77,8 +77,12 @@ placed_from whole s text (p ∷ ps) e rest tail h at last =
     let tails = placed_from whole (after s p.form p.slice) (drop (length p.slice) text) ps e rest tail (subst (λ t. Reaches (after s p.form p.slice) t ps e rest) (sym behind) h.3) next last in
     subst (AllByRecursion (IsPlaced whole)) (sym (append_assoc (token_if s p.slice (drop (length p.slice) text) (kind_of p.form p.slice)) _ tail))
     (all_if whole s p.slice (drop (length p.slice) text) (kind_of p.form p.slice) _
-    (λ k. record { order = omega arith; within = subst (λ n. n ≤ length whole) (after_at s p.form p.slice) next.within; place = at_place whole s text at;
-      end = at_place whole (after s p.form p.slice) (drop (length p.slice) text) next ∙ ap (place_at whole) (after_at s p.form p.slice) }) tails)
+    (λ k. record {
+      order = omega arith;
+      within = subst (λ n. n ≤ length whole) (after_at s p.form p.slice) next.within;
+      place = at_place whole s text at;
+      end = at_place whole (after s p.form p.slice) (drop (length p.slice) text) next ∙ ap (place_at whole) (after_at s p.form p.slice);
+    }) tails)
 
 pub placed : Placed
 placed text tokens h =

@@ -31,9 +31,10 @@ pub not_both : NotBoth
 not_both program a p c h k = let e = h.taken in cc
 
 answered : (program : Program) (o : Option Refusal) → own_scope_fault program ≡ o → ((a : Resolved) × Scoped program a) ⊎ ((p : _) × (c : _) × OwnScopeFault program p c)
-answered program None e = inl
-    (record { program = resolved_program program; scopes = scopes_of (seen None program); calls = (seen None program).calls; sites = [] },
-    record { taken = e; program_is = refl; scopes_are = refl; calls_are = refl; sites_are = refl })
+answered program None e = inl (
+  record { program = resolved_program program; scopes = scopes_of (seen None program); calls = (seen None program).calls; sites = [] },
+  record { taken = e; program_is = refl; scopes_are = refl; calls_are = refl; sites_are = refl },
+)
 answered program (Some r) e = inr (r.pos, r.construct, e)
 
 pub scoped_or_refused : ScopedOrRefused

@@ -273,10 +273,10 @@ resolved_call requires name text marked receiver args block =
 unfoldable pub other_call : Option ℕ → Option Part → Name → List Part → Option Part → Option Pos → Pos → Walk Kind
 other_call below receiver name args block marked mark c s =
     three (resolved_call (is_none receiver && is_require name) name (only_text args) marked)
-        (if_any receiver (plain c))
-        (all args (as_role (if is_shown_text receiver name args block then role.Shown else role.Plain) c))
-        (if_any block (plain c))
-        (noted below receiver name args block marked mark c.role s)
+    (if_any receiver (plain c))
+    (all args (as_role (if is_shown_text receiver name args block then role.Shown else role.Plain) c))
+    (if_any block (plain c))
+    (noted below receiver name args block marked mark c.role s)
 
 unfoldable pub call : Option ℕ → Option Part → Name → List Part → Option Part → Option Pos → Pos → Walk Kind
 call below receiver name args block marked mark c s =
@@ -309,7 +309,7 @@ abbrev pub of_params : Params-F BasePart FormPart (Walk ModuleForm) Part (Pos �
 of_params p mark c s =
     let w = defaults_in_turn mark p.optional p.defaults c (slots mark p.plain s) in
     walked (block_name mark p.block (slots mark p.after (rest_name mark p.rest w.seen)))
-        (roll-Params (record { plain = p.plain; optional = p.optional; defaults = w.made; rest = p.rest; after = p.after; block = p.block }))
+    (roll-Params (record { plain = p.plain; optional = p.optional; defaults = w.made; rest = p.rest; after = p.after; block = p.block }))
 
 -- ---- the forms
 
@@ -345,12 +345,12 @@ attr_set receiver name args value c s =
 abbrev pub attr_op_set : Part → Name → List Part → Operator → Part → Walk Kind
 attr_op_set receiver name args op value c s =
     three (λ r ns v. kinds.AttrOpSet r name ns op v) (receiver.walk (plain c)) (all args (plain c)) (value.walk (plain c))
-        (called_if_any (operator_name op) (called (setter name) (called name s)))
+    (called_if_any (operator_name op) (called (setter name) (called name s)))
 
 abbrev pub super : Option (List Part) → Option Part → Pos → Walk Kind
 super args block mark c s =
     two (λ ns b. kinds.Super ns b) (all_if_any args (plain c)) (if_any block (plain c))
-        (refuse_if (not c.in_def) mark construct.JumpOutside s)
+    (refuse_if (not c.in_def) mark construct.JumpOutside s)
 
 abbrev pub block : (Pos → Walk Params) → Part → Pos → Walk Kind
 block params body mark c s =
@@ -371,12 +371,12 @@ loop cond body body_first c s =
 abbrev pub case_of : Option Part → List Part → Part → Walk Kind
 case_of subject whens otherwise c s =
     three (λ t ws o. kinds.Case t ws o) (if_any subject (plain c))
-        (all whens (if is_none subject then as_role role.Condition c else plain c)) (otherwise.walk (plain c)) s
+    (all whens (if is_none subject then as_role role.Condition c else plain c)) (otherwise.walk (plain c)) s
 
 abbrev pub begin_with : Part → List Part → Option Part → Option Part → Walk Kind
 begin_with body clauses else_part ensure_part c s =
     two (λ b (r : List Node × (Option Node × Option Node)). kinds.Begin b r.0 (r.1).0 (r.1).1) (body.walk (plain c))
-        (three (λ cs e f. (cs, (e, f))) (all clauses (plain c)) (if_any else_part (plain c)) (if_any ensure_part (plain c))) s
+    (three (λ cs e f. (cs, (e, f))) (all clauses (plain c)) (if_any else_part (plain c)) (if_any ensure_part (plain c))) s
 
 unfoldable pub rescued : Option Name → Seen → Seen
 rescued None s = s
@@ -389,12 +389,12 @@ rescue classes name body c s =
 abbrev pub def : Option Part → Name → (Pos → Walk Params) → Part → Pos → Walk Kind
 def on name params body mark c s =
     two (λ o (r : Params × Node). kinds.Def o name r.0 r.1) (if_any on (plain c))
-        (in_body (two (λ p b. (p, b)) (params mark within_def) (body.walk within_def))) s
+    (in_body (two (λ p b. (p, b)) (params mark within_def) (body.walk within_def))) s
 
 abbrev pub module_def : Walk ModuleForm → Name → Part → Pos → Walk Kind
 module_def form name body mark c s =
     two (λ f b. kinds.ModuleDef f name b) (form (plain c)) (in_body (body.walk no_targets))
-        (refuse_if c.in_def mark construct.DynamicConstant s)
+    (refuse_if c.in_def mark construct.DynamicConstant s)
 
 -- a part that is all of a form
 abbrev pub whole : (Node → Kind) → Part → Walk Kind
@@ -414,7 +414,7 @@ of_kind below (Kind-F.ArrayLit items) = unbuilt (λ mark c. whole_list (λ ns. k
 of_kind below (Kind-F.HashLit keys values) = unbuilt (λ mark c s. onto (λ r. kinds.HashLit r.0 r.1) (in_turn keys values (plain c) s))
 of_kind below (Kind-F.RangeLit low high without_end) =
     unbuilt (λ mark c s. two (λ l h. kinds.RangeLit l h without_end) (low.walk (plain c)) (high.walk (plain c))
-        (refuse_if (is_condition c.role) mark construct.FlipFlop s))
+    (refuse_if (is_condition c.role) mark construct.FlipFlop s))
 of_kind below (Kind-F.LocalGet name) = unbuilt (λ mark c s. walked (name_local name s) (kinds.LocalGet name))
 of_kind below (Kind-F.IvarGet name) = nothing (kinds.IvarGet name)
 of_kind below (Kind-F.GlobalGet name) = nothing (kinds.GlobalGet name)
@@ -466,7 +466,7 @@ of_node n = record {
   text = n.kind.text;
   is_block = n.kind.is_block;
   walk = λ c s. onto (λ k. record { kind = k; span = n.span; mark = n.mark })
-    (n.kind.walk n.mark c (if n.kind.built c.role then s else unbuilt_at n.span.from s));
+      (n.kind.walk n.mark c (if n.kind.built c.role then s else unbuilt_at n.span.from s));
 }
 
 -- The same fold at each type of the tree. `below` says how many directories the file's one is below the base, where
