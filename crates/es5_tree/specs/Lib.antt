@@ -1,5 +1,6 @@
 pub mod Tree
 pub mod Text
+pub mod Depth
 pub mod Characters
 pub mod Literals
 pub mod Numerals

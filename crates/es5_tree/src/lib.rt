@@ -7,8 +7,10 @@ mod object_laws;
 mod reserved;
 mod safe_int;
 mod sign;
+pub mod small;
 mod token;
 mod tree;
+mod tree_depth;
 mod word;
 
 pub use laws::{
@@ -25,5 +27,6 @@ pub use reserved::is_reserved;
 pub use safe_int::SafeInt;
 pub use sign::{SIGNS, Sign};
 pub use token::{EsMark, EsStop, EsToken, EsTokenKind, EsTokens};
-pub use tree::{EsExpr, EsKind, EsStmt, EsStmts, Script};
+pub use tree::{Catch, EsExpr, EsKind, EsStmt, EsStmts, Operator, Script};
+pub use tree_depth::es_depth;
 pub use word::{is_word, word_units};

@@ -1,0 +1,170 @@
+ghost use Rattle.std.specs.Prelude.{◌≡◌, min, map};
+ghost use Rattle.std.specs.Option.{option_map};
+ghost use Rattle.es5_tree.specs.Depth as spec;
+
+use crate::tree::{Catch, EsExpr, EsKind, EsStmt, EsStmts, Script};
+use sqlite_items::Items;
+
+/// The number of statements and expressions on the longest path of a script, or `u32::MAX` where
+/// there are more.
+pub fn es_depth(script: &Script) -> u32
+    ensures { result ≡ min (spec.script_depth script.now) u32.MAX }
+{
+    deepest_stmt(&script.body)
+}
+
+#[cycle(depth)]
+#[tactic(auto, unfolding(crate::specs::Depth::expr_depth, crate::specs::Depth::kind_depth, crate::specs::Depth::stmt_depth, crate::specs::Depth::catch_depth))]
+fn of_expr(expr: &EsExpr) -> u32
+    ensures { result ≡ min (spec.expr_depth expr.now) u32.MAX }
+{
+    of_kind(expr.kind.get()).saturating_add(1)
+}
+
+// The depth of the deepest part.
+#[cycle(depth)]
+#[tactic(auto, unfolding(crate::specs::Depth::expr_depth, crate::specs::Depth::kind_depth, crate::specs::Depth::stmt_depth, crate::specs::Depth::catch_depth))]
+fn of_kind(kind: &EsKind) -> u32
+    ensures { result ≡ min (spec.kind_depth kind.now) u32.MAX }
+{
+    match kind {
+        EsKind::Array(items) => deepest(items),
+        EsKind::Object { values, .. } => deepest(values),
+        EsKind::Function { body, .. } => deepest_stmt(body),
+        EsKind::Member(base, _, _) => of_expr(base),
+        EsKind::Index(base, key, _) => of_expr(base).max(of_expr(key)),
+        EsKind::Call(callee, args) => of_expr(callee).max(deepest(args)),
+        EsKind::Not(value)
+        | EsKind::Neg(value)
+        | EsKind::Typeof(value)
+        | EsKind::Delete(value) => of_expr(value),
+        EsKind::Binary(_, left, right)
+        | EsKind::And(left, right)
+        | EsKind::Or(left, right)
+        | EsKind::Assign(left, right) => of_expr(left).max(of_expr(right)),
+        EsKind::Cond(test, yes, no) => of_expr(test).max(of_expr(yes)).max(of_expr(no)),
+        EsKind::Num(_)
+        | EsKind::Str(_)
+        | EsKind::True
+        | EsKind::False
+        | EsKind::Null
+        | EsKind::This
+        | EsKind::Name(_) => 0,
+    }
+}
+
+#[cycle(depth)]
+#[tactic(auto, unfolding(crate::specs::Depth::expr_depth, crate::specs::Depth::kind_depth, crate::specs::Depth::stmt_depth, crate::specs::Depth::catch_depth))]
+fn of_stmt(stmt: &EsStmt) -> u32
+    ensures { result ≡ min (spec.stmt_depth stmt.now) u32.MAX }
+{
+    let parts = match stmt {
+        EsStmt::Var(_, value) => optional(value),
+        EsStmt::Expr(value) => of_expr(value),
+        EsStmt::Block(body) => deepest_stmt(body),
+        EsStmt::If(test, yes, no) => {
+            let otherwise = match no {
+                Some(no) => of_stmt(no.get()),
+                None => 0,
+            };
+            of_expr(test).max(of_stmt(yes.get())).max(otherwise)
+        }
+        EsStmt::While(test, body) => of_expr(test).max(of_stmt(body.get())),
+        EsStmt::Return(value) => optional(value),
+        EsStmt::Break | EsStmt::Continue | EsStmt::Empty => 0,
+        EsStmt::Throw(value) => of_expr(value),
+        EsStmt::Try {
+            body,
+            catch,
+            finally,
+        } => {
+            let caught = match catch {
+                Some(catch) => of_catch(catch),
+                None => 0,
+            };
+            let last = match finally {
+                Some(finally) => deepest_stmt(finally),
+                None => 0,
+            };
+            deepest_stmt(body).max(caught).max(last)
+        }
+    };
+    parts.saturating_add(1)
+}
+
+#[cycle(depth)]
+#[tactic(auto, unfolding(crate::specs::Depth::expr_depth, crate::specs::Depth::kind_depth, crate::specs::Depth::stmt_depth, crate::specs::Depth::catch_depth))]
+fn of_catch(catch: &Catch) -> u32
+    ensures { result ≡ min (spec.catch_depth catch.now) u32.MAX }
+{
+    deepest_stmt(&catch.body)
+}
+
+#[cycle(depth)]
+fn optional(expr: &Option<EsExpr>) -> u32
+    ensures { result ≡ min (spec.optional (option_map spec.expr_depth expr.now)) u32.MAX }
+{
+    match expr {
+        Some(expr) => of_expr(expr),
+        None => 0,
+    }
+}
+
+#[cycle(depth)]
+fn deepest(exprs: &Items<EsExpr>) -> u32
+    ensures { result ≡ min (spec.highest (map spec.expr_depth exprs.now)) u32.MAX }
+{
+    let mut most = 0;
+    for expr in exprs.as_slice() {
+        most = most.max(of_expr(expr));
+    }
+    most
+}
+
+#[cycle(depth)]
+fn deepest_stmt(stmts: &EsStmts) -> u32
+    ensures { result ≡ min (spec.highest (map spec.stmt_depth stmts.now)) u32.MAX }
+{
+    let mut most = 0;
+    for stmt in stmts.as_slice() {
+        most = most.max(of_stmt(stmt));
+    }
+    most
+}
+
+#[cfg(test)]
+mod tests {
+    use super::*;
+    use opal_base::Pos;
+    use sqlite_items::Boxed;
+    use std::alloc::Global;
+    use std::process::Abort;
+    use std::test::Fail;
+
+    fn expr(alloc: Global, kind: EsKind) -> Result<EsExpr, Fail> {
+        Ok(EsExpr {
+            kind: Boxed::new(alloc, kind)?,
+            origin: None,
+            pos: Pos { line: 0, col: 0 },
+        })
+    }
+
+    // `while (this) { ; !this; }`: the second statement of the body is on the longest path.
+    #[test]
+    fn nodes_on_the_longest_path(rt: HostRuntime) -> Result<(), Fail> {
+        let alloc = rt.alloc();
+        let mut body = EsStmts::new(alloc);
+        body.push(EsStmt::Empty)?;
+        let value = expr(alloc, EsKind::This)?;
+        body.push(EsStmt::Expr(expr(alloc, EsKind::Not(value))?))?;
+        let test = expr(alloc, EsKind::This)?;
+        let block = Boxed::new(alloc, EsStmt::Block(body))?;
+        let mut script = Script {
+            body: EsStmts::new(alloc),
+        };
+        assert_eq!(rt; es_depth(&script), 0);
+        script.body.push(EsStmt::While(test, block))?;
+        assert_eq!(rt; es_depth(&script), 5);
+        Ok(())
+    }
+}
