@@ -4,7 +4,7 @@ use Rattle.es5_tree.specs.declared.token.EsToken.{EsToken}
 use Rattle.es5_tree.specs.declared.small.Script.{Script}
 use Rattle.es5_tree.specs.Spells.{Spells, body_of}
 use Rattle.es5_tree.specs.Laws.{OneRead, ReadSpells}
-use Rattle.es5_tree.proofs.Grammar.{tokens_one, writes_one}
+use Rattle.es5_tree.proofs.OneScript.{tokens_one, writes_one}
 use Rattle.es5_tree.proofs.Placed.{spelled}
 
 -- tokens spell one script at most

@@ -11,6 +11,7 @@ pub mod Lexed
 pub mod Written
 pub mod Spells
 pub mod Reading
+pub mod Grammar
 pub mod State
 pub mod Task
 pub mod Eval

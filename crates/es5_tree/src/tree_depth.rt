@@ -34,10 +34,8 @@ fn of_kind(kind: &EsKind) -> u32
         EsKind::Member(base, _, _) => of_expr(base),
         EsKind::Index(base, key, _) => of_expr(base).max(of_expr(key)),
         EsKind::Call(callee, args) => of_expr(callee).max(deepest(args)),
-        EsKind::Not(value)
-        | EsKind::Neg(value)
-        | EsKind::Typeof(value)
-        | EsKind::Delete(value) => of_expr(value),
+        EsKind::Not(value) | EsKind::Neg(value) | EsKind::Typeof(value) | EsKind::Delete(value) =>
+            of_expr(value),
         EsKind::Binary(_, left, right)
         | EsKind::And(left, right)
         | EsKind::Or(left, right)
