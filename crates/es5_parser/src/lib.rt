@@ -2,7 +2,10 @@
 #![tactic(auto)]
 
 mod cursor;
+mod fail;
 mod parse;
+mod terminal;
+mod tokens;
 #[cfg(test)]
 mod tests;
 

@@ -1,0 +1,85 @@
+//! The tokens ahead.
+
+ghost use Rattle.std.specs.Prelude.{◌≡◌, [], ◌∷◌, length, ◌||◌};
+ghost use Rattle.grammar.specs.FormReaders.{next_in, read_token};
+ghost use Rattle.grammar.specs.Spelling.{token_in};
+ghost use Rattle.es5_tree.specs.Grammar.Terminals.{code_of, token_code};
+ghost use Rattle.es5_parser.specs.Gives.{ahead, GivesToken, one_of, codes};
+
+use crate::fail::Fail;
+use crate::terminal::{code_of, terminal_of};
+use es5_tree::{EsMark, EsToken, Keyword, Terminal};
+
+/// The tokens that are left.
+#[derive(Drop)]
+pub struct Tokens<'a> {
+    pub rest: &'a [EsToken],
+}
+
+fn either(one: bool, other: bool) -> bool
+    ensures { result ≡ (one || other) }
+{
+    one || other
+}
+
+fn is_one_of(terminal: Terminal, terminals: &[Terminal]) -> bool
+    ensures { result ≡ one_of (codes terminals.now) (code_of terminal) }
+{
+    let code = code_of(terminal);
+    let mut found = false;
+    for other in terminals {
+        found = either(found, code_of(*other) == code);
+    }
+    found
+}
+
+impl<'a> Tokens<'a> {
+    /// Whether this terminal stands next.
+    pub fn sees(&self, terminal: Terminal) -> bool
+        ensures { result ≡ next_in (λ t. one_of (codes (terminal ∷ [])) (token_code t)) (ahead self.now) }
+    {
+        match self.rest.first() {
+            Some(next) => code_of(terminal_of(&next.kind)) == code_of(terminal),
+            None => false,
+        }
+    }
+
+    /// Whether one of these terminals stands next.
+    pub fn sees_one_of(&self, terminals: &[Terminal]) -> bool
+        ensures { result ≡ next_in (λ t. one_of (codes terminals.now) (token_code t)) (ahead self.now) }
+    {
+        match self.rest.first() {
+            Some(next) => is_one_of(terminal_of(&next.kind), terminals),
+            None => false,
+        }
+    }
+
+    /// How many tokens are left.
+    pub fn left(&self) -> usize
+        ensures { result ≡ length (ahead self.now) }
+    {
+        self.rest.len()
+    }
+
+    /// Takes this terminal.
+    pub fn take(&mut self, terminal: Terminal) -> Result<&'a EsToken, Fail>
+        ensures { GivesToken (read_token (token_in token_code (one_of (codes (terminal ∷ [])))) (ahead self.old)) result (ahead self.new) }
+    {
+        self.take_one_of(&[terminal])
+    }
+
+    /// Takes one of these terminals.
+    pub fn take_one_of(&mut self, terminals: &[Terminal]) -> Result<&'a EsToken, Fail>
+        ensures { GivesToken (read_token (token_in token_code (one_of (codes terminals.now))) (ahead self.old)) result (ahead self.new) }
+    {
+        let rest: &'a [EsToken] = self.rest;
+        let Some(next) = rest.first() else {
+            return Err(Fail::Refused);
+        };
+        if !is_one_of(terminal_of(&next.kind), terminals) {
+            return Err(Fail::Refused);
+        }
+        self.rest = &rest[1..];
+        Ok(next)
+    }
+}
