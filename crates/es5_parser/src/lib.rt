@@ -3,6 +3,8 @@
 
 mod cursor;
 mod fail;
+mod making;
+mod names;
 mod parse;
 mod terminal;
 mod tokens;

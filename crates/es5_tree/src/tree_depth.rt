@@ -13,9 +13,11 @@ pub fn es_depth(script: &Script) -> u32
     deepest_stmt(&script.body)
 }
 
+/// The number of statements and expressions on the longest path of an expression, or `u32::MAX`
+/// where there are more.
 #[cycle(depth)]
 #[tactic(auto, unfolding(crate::specs::Depth::expr_depth, crate::specs::Depth::kind_depth, crate::specs::Depth::stmt_depth, crate::specs::Depth::catch_depth))]
-fn of_expr(expr: &EsExpr) -> u32
+pub fn expr_depth(expr: &EsExpr) -> u32
     ensures { result ≡ min (spec.expr_depth expr.now) u32.MAX }
 {
     of_kind(expr.kind.get()).saturating_add(1)
@@ -31,16 +33,16 @@ fn of_kind(kind: &EsKind) -> u32
         EsKind::Array(items) => deepest(items),
         EsKind::Object { values, .. } => deepest(values),
         EsKind::Function { body, .. } => deepest_stmt(body),
-        EsKind::Member(base, _, _) => of_expr(base),
-        EsKind::Index(base, key, _) => of_expr(base).max(of_expr(key)),
-        EsKind::Call(callee, args) => of_expr(callee).max(deepest(args)),
+        EsKind::Member(base, _, _) => expr_depth(base),
+        EsKind::Index(base, key, _) => expr_depth(base).max(expr_depth(key)),
+        EsKind::Call(callee, args) => expr_depth(callee).max(deepest(args)),
         EsKind::Not(value) | EsKind::Neg(value) | EsKind::Typeof(value) | EsKind::Delete(value) =>
-            of_expr(value),
+            expr_depth(value),
         EsKind::Binary(_, left, right)
         | EsKind::And(left, right)
         | EsKind::Or(left, right)
-        | EsKind::Assign(left, right) => of_expr(left).max(of_expr(right)),
-        EsKind::Cond(test, yes, no) => of_expr(test).max(of_expr(yes)).max(of_expr(no)),
+        | EsKind::Assign(left, right) => expr_depth(left).max(expr_depth(right)),
+        EsKind::Cond(test, yes, no) => expr_depth(test).max(expr_depth(yes)).max(expr_depth(no)),
         EsKind::Num(_)
         | EsKind::Str(_)
         | EsKind::True
@@ -58,19 +60,19 @@ fn of_stmt(stmt: &EsStmt) -> u32
 {
     let parts = match stmt {
         EsStmt::Var(_, value) => optional(value),
-        EsStmt::Expr(value) => of_expr(value),
+        EsStmt::Expr(value) => expr_depth(value),
         EsStmt::Block(body) => deepest_stmt(body),
         EsStmt::If(test, yes, no) => {
             let otherwise = match no {
                 Some(no) => of_stmt(no.get()),
                 None => 0,
             };
-            of_expr(test).max(of_stmt(yes.get())).max(otherwise)
+            expr_depth(test).max(of_stmt(yes.get())).max(otherwise)
         }
-        EsStmt::While(test, body) => of_expr(test).max(of_stmt(body.get())),
+        EsStmt::While(test, body) => expr_depth(test).max(of_stmt(body.get())),
         EsStmt::Return(value) => optional(value),
         EsStmt::Break | EsStmt::Continue | EsStmt::Empty => 0,
-        EsStmt::Throw(value) => of_expr(value),
+        EsStmt::Throw(value) => expr_depth(value),
         EsStmt::Try {
             body,
             catch,
@@ -103,7 +105,7 @@ fn optional(expr: &Option<EsExpr>) -> u32
     ensures { result ≡ min (spec.optional (option_map spec.expr_depth expr.now)) u32.MAX }
 {
     match expr {
-        Some(expr) => of_expr(expr),
+        Some(expr) => expr_depth(expr),
         None => 0,
     }
 }
@@ -114,7 +116,7 @@ fn deepest(exprs: &Items<EsExpr>) -> u32
 {
     let mut most = 0;
     for expr in exprs.as_slice() {
-        most = most.max(of_expr(expr));
+        most = most.max(expr_depth(expr));
     }
     most
 }

@@ -1,0 +1,61 @@
+-- What a parser's function for the parts does that hold one another.
+use Rattle.std.specs.Prelude.{◌≡◌, ℕ, Bool, true, false, List, map, Option, Result, Ok, Err}
+use Rattle.std.specs.Option.{option_map}
+use Rattle.std.specs.declared.alloc.Global.{Global}
+use denote.Ref.{MutBor}
+use Rattle.grammar.specs.Readers.{read_named}
+use Rattle.es5_tree.specs.declared.token.EsToken.{EsToken}
+use Rattle.es5_tree.specs.declared.tree.EsExpr.{EsExpr}
+use Rattle.es5_tree.specs.Grammar.Nodes.{Node, statement, expression}
+use Rattle.es5_tree.specs.Grammar.Names as name
+use Rattle.es5_tree.specs.Grammar.Table.{table}
+use Rattle.es5_parser.specs.declared.tokens.Tokens.{Tokens}
+use Rattle.es5_parser.specs.declared.fail.Fail.{Fail}
+use Rattle.es5_parser.specs.declared.fail.Fail.TheVariants.{NoMemory, Refused}
+use Rattle.es5_parser.specs.declared.names.Part.{Part}
+use Rattle.es5_parser.specs.declared.names.Part.TheVariants as part
+use Rattle.es5_parser.specs.declared.names.Statement.{Statement}
+use Rattle.es5_parser.specs.declared.names.Operand.{Operand}
+use Rattle.es5_parser.specs.declared.names.Reading.{Reading}
+use Rattle.es5_parser.specs.declared.names.Reading.TheVariants as reading
+use Rattle.es5_parser.specs.Gives.{ahead, Gives}
+
+abbrev pub else_code : Bool → ℕ
+else_code true = 1
+else_code false = 0
+
+abbrev pub shown_stmt : Statement → Node × ℕ
+shown_stmt s = (statement s.stmt, else_code s.takes_else)
+
+abbrev pub shown_operand : Operand → EsToken × Node
+shown_operand x = (x.first.now, expression x.expr)
+
+abbrev pub GivesExpr : Result (Node × List EsToken) (List EsToken) → Result EsExpr Fail → List EsToken → Type 0
+GivesExpr = Gives expression
+
+abbrev pub GivesExprs : Result (List Node × List EsToken) (List EsToken) → Result (List EsExpr) Fail → List EsToken → Type 0
+GivesExprs = Gives (map expression)
+
+abbrev pub GivesOptional : Result (Option Node × List EsToken) (List EsToken) → Result (Option EsExpr) Fail → List EsToken → Type 0
+GivesOptional = Gives (option_map expression)
+
+abbrev pub GivesStmt : Result ((Node × ℕ) × List EsToken) (List EsToken) → Result Statement Fail → List EsToken → Type 0
+GivesStmt = Gives shown_stmt
+
+abbrev pub GivesOperand : Result ((EsToken × Node) × List EsToken) (List EsToken) → Result Operand Fail → List EsToken → Type 0
+GivesOperand = Gives shown_operand
+
+abbrev pub GivesPart : Part → ℕ → List EsToken → Result Reading Fail → List EsToken → Type 0
+GivesPart (part.Expr level) b ts (Ok (reading.Expr e)) rest = read_named table b (name.expr level) ts ≡ Ok (expression e, rest)
+GivesPart (part.Expr level) b ts (Ok (reading.Stmt s)) rest = ⊥
+GivesPart (part.Expr level) b ts (Err NoMemory) rest = Unit {0}
+GivesPart (part.Expr level) b ts (Err Refused) rest = read_named table b (name.expr level) ts ≡ Err rest
+GivesPart (part.Stmt f l) b ts (Ok (reading.Stmt s)) rest = read_named table b (name.statement f l) ts ≡ Ok (shown_stmt s, rest)
+GivesPart (part.Stmt f l) b ts (Ok (reading.Expr e)) rest = ⊥
+GivesPart (part.Stmt f l) b ts (Err NoMemory) rest = Unit {0}
+GivesPart (part.Stmt f l) b ts (Err Refused) rest = read_named table b (name.statement f l) ts ≡ Err rest
+
+-- A function that reads each part with so many levels.
+pub record Nests (depth : ℕ) (pre : Global → MutBor Tokens → Part → ℕ → Type 0) (post : Global → MutBor Tokens → Part → ℕ → Result Reading Fail → MutBor Tokens → Type 0) : Type 0 where
+  pub callable : (alloc : Global) (old : MutBor Tokens) (k : Part) → pre alloc old k depth
+  pub reads : (alloc : Global) (old new : MutBor Tokens) (k : Part) (r : Result Reading Fail) → post alloc old k depth r new → GivesPart k depth (ahead old.now) r (ahead new.now)

@@ -1,0 +1,122 @@
+//! Expressions and statements from tokens and their parts.
+
+ghost use Rattle.std.specs.Prelude.{◌≡◌, ◌<◌, ◌^◌, nat_le, IfOk};
+ghost use Rattle.es5_tree.specs.Depth as depth;
+ghost use Rattle.es5_tree.specs.Grammar.Nodes as act;
+ghost use Rattle.es5_tree.specs.Grammar.Nodes.{expression};
+ghost use Rattle.es5_tree.specs.Grammar.Terminals as terminals;
+
+use crate::terminal::terminal_of_word;
+use es5_tree::{
+    EsExpr, EsKind, EsMark, EsToken, EsTokenKind, Keyword, Operator, Terminal, expr_depth, is_word,
+};
+use opal_base::{NoMemory, Pos, Units};
+use sqlite_items::Boxed;
+use std::alloc::{AllocError, Global};
+
+const ARGUMENTS: &[u8] = b"arguments";
+
+pub fn expr(alloc: Global, pos: Pos, kind: EsKind) -> Result<EsExpr, AllocError>
+    ensures { IfOk result (λ made. made ≡ act.expr_at pos kind) }
+{
+    let kind = Boxed::new(alloc, kind)?;
+    Ok(EsExpr {
+        kind,
+        origin: None,
+        pos,
+    })
+}
+
+/// The name that a token spells.
+pub fn name_of(alloc: Global, token: &EsToken) -> Result<Units, NoMemory>
+    ensures { IfOk result (λ name. name ≡ act.name_of token.now) }
+{
+    match &token.kind {
+        EsTokenKind::Word(name) => name.try_clone(),
+        _ => Ok(Units::new(alloc)),
+    }
+}
+
+fn word_kind(name: &Units) -> Result<EsKind, NoMemory>
+    ensures { IfOk result (λ kind. kind ≡ act.word_kind (terminals.terminal_of_word name.now) name.now) }
+{
+    match terminal_of_word(name) {
+        Terminal::Keyword(Keyword::This) => Ok(EsKind::This),
+        Terminal::Keyword(Keyword::Null) => Ok(EsKind::Null),
+        Terminal::Keyword(Keyword::True) => Ok(EsKind::True),
+        Terminal::Keyword(Keyword::False) => Ok(EsKind::False),
+        _ => Ok(EsKind::Name(name.try_clone()?)),
+    }
+}
+
+/// The expression of one token.
+#[tactic(auto, unfolding(es5_tree::specs::Grammar::Nodes::token_kind))]
+pub fn token_kind(kind: &EsTokenKind) -> Result<EsKind, NoMemory>
+    ensures { IfOk result (λ made. made ≡ act.token_kind kind.now) }
+{
+    match kind {
+        EsTokenKind::Word(name) => word_kind(name),
+        EsTokenKind::Num(value) => Ok(EsKind::Num(*value)),
+        EsTokenKind::Str(text) => Ok(EsKind::Str(text.try_clone()?)),
+        _ => Ok(EsKind::Null),
+    }
+}
+
+pub fn unary_kind(kind: &EsTokenKind, value: EsExpr) -> EsKind
+    ensures { result ≡ act.unary_kind kind.now value }
+{
+    match kind {
+        EsTokenKind::Mark(EsMark::Not) => EsKind::Not(value),
+        EsTokenKind::Mark(EsMark::Minus) => EsKind::Neg(value),
+        _ => EsKind::Typeof(value),
+    }
+}
+
+pub fn operator_of(kind: &EsTokenKind) -> Operator
+    ensures { result ≡ act.operator_of kind.now }
+{
+    match kind {
+        EsTokenKind::Mark(EsMark::Same) => Operator::Same,
+        EsTokenKind::Mark(EsMark::Different) => Operator::Different,
+        EsTokenKind::Mark(EsMark::Less) => Operator::Less,
+        EsTokenKind::Mark(EsMark::Greater) => Operator::Greater,
+        EsTokenKind::Mark(EsMark::LessOrEqual) => Operator::LessOrEqual,
+        EsTokenKind::Mark(EsMark::GreaterOrEqual) => Operator::GreaterOrEqual,
+        EsTokenKind::Mark(EsMark::Plus) => Operator::Add,
+        EsTokenKind::Mark(EsMark::Minus) => Operator::Subtract,
+        EsTokenKind::Mark(EsMark::Times) => Operator::Multiply,
+        EsTokenKind::Mark(EsMark::Divide) => Operator::Divide,
+        _ => Operator::Remainder,
+    }
+}
+
+/// Whether it is a member or an index.
+#[tactic(auto, unfolding(es5_tree::specs::Grammar::Nodes::is_member, es5_tree::specs::Grammar::Nodes::expr_of))]
+pub fn is_member(expr: &EsExpr) -> bool
+    ensures { result ≡ act.is_member (expression expr.now) }
+{
+    match expr.kind.get() {
+        EsKind::Member(_, _, _) | EsKind::Index(_, _, _) => true,
+        _ => false,
+    }
+}
+
+/// Whether it can stand before a `=`.
+#[tactic(auto, unfolding(es5_tree::specs::Grammar::Nodes::is_target, es5_tree::specs::Grammar::Nodes::expr_of))]
+pub fn is_target(expr: &EsExpr) -> bool
+    ensures { result ≡ act.is_target (expression expr.now) }
+{
+    match expr.kind.get() {
+        EsKind::Name(name) => !is_word(ARGUMENTS, name.as_slice()),
+        EsKind::Member(_, _, _) | EsKind::Index(_, _, _) => true,
+        _ => false,
+    }
+}
+
+/// Whether an expression has no more levels than that.
+pub fn fits(expr: &EsExpr, levels: u32) -> bool
+    requires { levels < 2 ^ 31 }
+    ensures { result ≡ nat_le (depth.expr_depth expr.now) levels }
+{
+    expr_depth(expr) <= levels
+}
