@@ -62,7 +62,8 @@ pub const KEYWORDS: [(&[u8], Keyword); 18] = [
     (b"while", Keyword::While),
 ];
 
-/// The levels of expressions that are parts of others, loosest first (ECMA-262 5.1, 11.4 to 11.13).
+/// The levels of expressions that are parts of others, loosest first (ECMA-262 5.1, 11.2 and 11.4 to
+/// 11.13).
 #[derive(Clone, Copy, Debug, PartialEq, Eq)]
 pub enum Level {
     Assignment,
@@ -72,4 +73,6 @@ pub enum Level {
     Additive,
     Multiplicative,
     Unary,
+    /// Members, indices and calls.
+    Call,
 }

@@ -106,7 +106,7 @@ c_access : Checks table access_part
 unfolding table simple parenthesized more_items item_list array more_pairs value_and_more pair_list object_literal more_params param_list parameters block function_expression primary member_part index_part arguments call_part access_part call_level deletion operation unary_level product_part product_level sum_part sum_level relation_part relation_level equality_part equality_level and_level or_level choices conditional_level assignment_level ended variable_statement empty_statement expression_statement condition return_statement throw_statement break_statement continue_statement block_statement first_branch both_branches if_statement while_statement catch_part finally_part handlers try_statement any_statement whole_script
 c_access = (refl, refl, c_member, (refl, refl, c_index, c_call_part))
 
-c_call : Checks table call_level
+pub c_call : Checks table call_level
 unfolding table simple parenthesized more_items item_list array more_pairs value_and_more pair_list object_literal more_params param_list parameters block function_expression primary member_part index_part arguments call_part access_part call_level deletion operation unary_level product_part product_level sum_part sum_level relation_part relation_level equality_part equality_level and_level or_level choices conditional_level assignment_level ended variable_statement empty_statement expression_statement condition return_statement throw_statement break_statement continue_statement block_statement first_branch both_branches if_statement while_statement catch_part finally_part handlers try_statement any_statement whole_script
 c_call = (refl, refl, refl, refl, λ l x. omega (arith, access_depth (expr_of l.1) (x.0.0) (exprs (x.0.1)) x.1 (place l.0), expr_of_depth l.1, exprs_depth (x.0.1)), c_primary, c_access)
 
@@ -117,7 +117,7 @@ c_ends false = (refl, refl, λ h. refl, (λ t. refl, tt))
 
 c_deletion : Checks table deletion
 unfolding table simple parenthesized more_items item_list array more_pairs value_and_more pair_list object_literal more_params param_list parameters block function_expression primary member_part index_part arguments call_part access_part call_level deletion operation unary_level product_part product_level sum_part sum_level relation_part relation_level equality_part equality_level and_level or_level choices conditional_level assignment_level ended variable_statement empty_statement expression_statement condition return_statement throw_statement break_statement continue_statement block_statement first_branch both_branches if_statement while_statement catch_part finally_part handlers try_statement any_statement whole_script
-c_deletion = (λ x. omega (arith, delete_depth (expr_of (x.1.0.1)) (place x.0), expr_of_depth (x.1.0.1)), (refl, tt, (refl, c_call, λ e. c_ends (is_member e.1))))
+c_deletion = (λ x. omega (arith, delete_depth (expr_of (x.1.0)) (place x.0), expr_of_depth (x.1.0)), (refl, tt, (refl, tt, λ e. c_ends (is_member e))))
 
 c_operation : Checks table operation
 unfolding table simple parenthesized more_items item_list array more_pairs value_and_more pair_list object_literal more_params param_list parameters block function_expression primary member_part index_part arguments call_part access_part call_level deletion operation unary_level product_part product_level sum_part sum_level relation_part relation_level equality_part equality_level and_level or_level choices conditional_level assignment_level ended variable_statement empty_statement expression_statement condition return_statement throw_statement break_statement continue_statement block_statement first_branch both_branches if_statement while_statement catch_part finally_part handlers try_statement any_statement whole_script

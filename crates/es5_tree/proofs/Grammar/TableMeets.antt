@@ -17,7 +17,7 @@ use Rattle.es5_tree.specs.Grammar.Statements.{ended, variable_statement, empty_s
 use Rattle.es5_tree.specs.Grammar.Table.{table, production, begins, is_nullable, statement_goes_on, goes_on}
 use Rattle.es5_tree.specs.Grammar.Table.{continues as behind_name}
 use Rattle.es5_tree.proofs.Grammar.Codes.{code_within}
-use Rattle.es5_tree.proofs.Grammar.Checks.{c_more_items, c_pairs, c_params, c_unary, c_product, c_sum, c_relation, c_equality, c_and, c_assignment, c_statement, c_script, first_goes_on}
+use Rattle.es5_tree.proofs.Grammar.Checks.{c_more_items, c_pairs, c_params, c_call, c_unary, c_product, c_sum, c_relation, c_equality, c_and, c_assignment, c_statement, c_script, first_goes_on}
 
 c_all : (k : Name) → Checks table (production k)
 unfolding table simple parenthesized more_items item_list array more_pairs value_and_more pair_list object_literal more_params param_list parameters block function_expression primary member_part index_part arguments call_part access_part call_level deletion operation unary_level product_part product_level sum_part sum_level relation_part relation_level equality_part equality_level and_level or_level choices conditional_level assignment_level ended variable_statement empty_statement expression_statement condition return_statement throw_statement break_statement continue_statement block_statement first_branch both_branches if_statement while_statement catch_part finally_part handlers try_statement any_statement whole_script
@@ -30,13 +30,18 @@ c_all (expr level.Relational) = (λ x. omega arith, c_relation)
 c_all (expr level.Additive) = (λ x. omega arith, c_sum)
 c_all (expr level.Multiplicative) = (λ x. omega arith, c_product)
 c_all (expr level.Unary) = (λ x. omega arith, c_unary)
+c_all (expr level.Call) = (λ x. omega arith, c_call)
 c_all items = c_more_items
 c_all (pairs seen) = c_pairs seen
 c_all (params seen) = c_params seen
 
+g_call : Guarded table call_level
+unfolding table simple parenthesized more_items item_list array more_pairs value_and_more pair_list object_literal more_params param_list parameters block function_expression primary member_part index_part arguments call_part access_part call_level deletion operation unary_level product_part product_level sum_part sum_level relation_part relation_level equality_part equality_level and_level or_level choices conditional_level assignment_level ended variable_statement empty_statement expression_statement condition return_statement throw_statement break_statement continue_statement block_statement first_branch both_branches if_statement while_statement catch_part finally_part handlers try_statement any_statement whole_script
+g_call = (tt, ((tt, inr refl), (tt, (tt, tt))))
+
 g_unary : Guarded table unary_level
 unfolding table simple parenthesized more_items item_list array more_pairs value_and_more pair_list object_literal more_params param_list parameters block function_expression primary member_part index_part arguments call_part access_part call_level deletion operation unary_level product_part product_level sum_part sum_level relation_part relation_level equality_part equality_level and_level or_level choices conditional_level assignment_level ended variable_statement empty_statement expression_statement condition return_statement throw_statement break_statement continue_statement block_statement first_branch both_branches if_statement while_statement catch_part finally_part handlers try_statement any_statement whole_script
-g_unary = (tt, (tt, (tt, ((tt, inr refl), (tt, (tt, tt))))))
+g_unary = (tt, (tt, g_call))
 
 guards : (k : Name) → Guarded table (production k)
 unfolding table simple parenthesized more_items item_list array more_pairs value_and_more pair_list object_literal more_params param_list parameters block function_expression primary member_part index_part arguments call_part access_part call_level deletion operation unary_level product_part product_level sum_part sum_level relation_part relation_level equality_part equality_level and_level or_level choices conditional_level assignment_level ended variable_statement empty_statement expression_statement condition return_statement throw_statement break_statement continue_statement block_statement first_branch both_branches if_statement while_statement catch_part finally_part handlers try_statement any_statement whole_script
@@ -52,6 +57,7 @@ guards (expr level.Relational) = g_unary
 guards (expr level.Additive) = g_unary
 guards (expr level.Multiplicative) = g_unary
 guards (expr level.Unary) = g_unary
+guards (expr level.Call) = g_call
 guards items = ((tt, inr refl), tt)
 guards (pairs seen) = (tt, inr refl)
 guards (params seen) = (tt, inr refl)
@@ -70,6 +76,7 @@ all_begin (expr level.Relational) = refl
 all_begin (expr level.Additive) = refl
 all_begin (expr level.Multiplicative) = refl
 all_begin (expr level.Unary) = refl
+all_begin (expr level.Call) = refl
 all_begin items = refl
 all_begin (pairs seen) = refl
 all_begin (params seen) = refl
@@ -88,6 +95,7 @@ all_continue (expr level.Relational) = refl
 all_continue (expr level.Additive) = refl
 all_continue (expr level.Multiplicative) = refl
 all_continue (expr level.Unary) = refl
+all_continue (expr level.Call) = refl
 all_continue items = refl
 all_continue (pairs seen) = refl
 all_continue (params seen) = refl
@@ -227,6 +235,7 @@ empties (expr level.Relational) h = h
 empties (expr level.Additive) h = h
 empties (expr level.Multiplicative) h = h
 empties (expr level.Unary) h = h
+empties (expr level.Call) h = h
 empties items h = refl
 empties (pairs seen) h = h
 empties (params seen) h = h

@@ -132,8 +132,8 @@ ends_where false = view {s = leaf} (λ t. 0) (token (λ n. false))
 
 -- "delete", and a member or an index (11.4.1)
 unfoldable pub deletion : R expr_sort
-deletion = node {s = pair leaf (pair expr_sort flag)} (λ x. (x.0, made x.0 (kind.Delete (expr_of (x.1.0.1)))))
-    (sequence (token (key keyword.Delete)) (bind {s = expr_sort} call_level true (λ n. false) (λ n. false) (λ e. ends_where (is_member e.1))))
+deletion = node {s = pair leaf (pair tree flag)} (λ x. (x.0, made x.0 (kind.Delete (expr_of (x.1.0)))))
+    (sequence (token (key keyword.Delete)) (bind {s = tree} (named (expr level.Call)) true (λ n. false) (λ n. false) (λ e. ends_where (is_member e))))
 
 -- ("!" | "-" | "typeof") unary
 unfoldable pub operation : R expr_sort

@@ -11,7 +11,7 @@ use Rattle.es5_tree.specs.declared.token.EsToken.{EsToken}
 use Rattle.es5_tree.specs.Grammar.Terminals.{size, token_code, a, op, key, identifier}
 use Rattle.es5_tree.specs.Grammar.Nodes.{Node, depth}
 use Rattle.es5_tree.specs.Grammar.Names.{Name, script, statement, expr, items, pairs, params, sorts, R, expr_sort}
-use Rattle.es5_tree.specs.Grammar.Expressions.{behind_call, behind_product, behind_sum, behind_relation, behind_equality, behind_and, behind_expression, behind_pairs, more_items, pair_list, param_list, unary_level, product_level, sum_level, relation_level, equality_level, and_level, assignment_level}
+use Rattle.es5_tree.specs.Grammar.Expressions.{behind_call, behind_product, behind_sum, behind_relation, behind_equality, behind_and, behind_expression, behind_pairs, more_items, pair_list, param_list, call_level, unary_level, product_level, sum_level, relation_level, equality_level, and_level, assignment_level}
 use Rattle.es5_tree.specs.Grammar.Statements.{any_statement, whole_script}
 
 -- an expression without its first token
@@ -26,6 +26,7 @@ level_rule level.Relational = relation_level
 level_rule level.Additive = sum_level
 level_rule level.Multiplicative = product_level
 level_rule level.Unary = unary_level
+level_rule level.Call = call_level
 
 abbrev pub production : (k : Name) → R (sorts k)
 production script = whole_script
@@ -37,9 +38,12 @@ production (params seen) = param_list seen
 
 -- ---- what begins a production
 
-abbrev pub begins_expression : ℕ → Bool
-begins_expression = identifier or a terminal.Num or a terminal.Str or key keyword.This or key keyword.Null or key keyword.True or key keyword.False
+abbrev pub begins_primary : ℕ → Bool
+begins_primary = identifier or a terminal.Num or a terminal.Str or key keyword.This or key keyword.Null or key keyword.True or key keyword.False
     or op mark.OpenParen or op mark.OpenBracket or op mark.OpenBrace or key keyword.Function
+
+abbrev pub begins_expression : ℕ → Bool
+begins_expression = begins_primary
     or op mark.Not or op mark.Minus or key keyword.Typeof or key keyword.Delete
 
 abbrev pub begins_statement : ℕ → Bool
@@ -49,6 +53,7 @@ begins_statement = begins_expression or key keyword.Var or op mark.Semicolon or 
 abbrev pub begins : Name → ℕ → Bool
 begins script = a terminal.Str
 begins (statement in_function in_loop) = begins_statement
+begins (expr level.Call) = begins_primary
 begins (expr l) = begins_expression
 begins items = op mark.Comma
 begins (pairs seen) = identifier
@@ -64,6 +69,7 @@ behind_level level.Relational = behind_relation
 behind_level level.Additive = behind_sum
 behind_level level.Multiplicative = behind_product
 behind_level level.Unary = behind_call
+behind_level level.Call = behind_call
 
 abbrev pub behind_statement : ℕ → Bool
 behind_statement = key keyword.Else or key keyword.Finally
