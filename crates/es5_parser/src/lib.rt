@@ -5,6 +5,7 @@ mod cursor;
 mod fail;
 mod making;
 mod names;
+mod operators;
 mod parse;
 mod terminal;
 mod tokens;

@@ -1,11 +1,14 @@
 //! Expressions and statements from tokens and their parts.
 
-ghost use Rattle.std.specs.Prelude.{◌≡◌, ◌<◌, ◌^◌, nat_le, IfOk};
-ghost use Rattle.es5_tree.specs.Depth as depth;
+ghost use Rattle.std.specs.Prelude.{◌≡◌, ◌<◌, ◌^◌, IfOk};
 ghost use Rattle.es5_tree.specs.Grammar.Nodes as act;
 ghost use Rattle.es5_tree.specs.Grammar.Nodes.{expression};
 ghost use Rattle.es5_tree.specs.Grammar.Terminals as terminals;
+ghost use Rattle.es5_parser.specs.Loops as loops;
+ghost use Rattle.es5_parser.specs.Named.{shown_operand};
 
+use crate::names::Operand;
+use crate::operators::Logical;
 use crate::terminal::terminal_of_word;
 use es5_tree::{
     EsExpr, EsKind, EsMark, EsToken, EsTokenKind, Keyword, Operator, Terminal, expr_depth, is_word,
@@ -114,9 +117,46 @@ pub fn is_target(expr: &EsExpr) -> bool
 }
 
 /// Whether an expression has no more levels than that.
-pub fn fits(expr: &EsExpr, levels: u32) -> bool
+pub fn fits(operand: &Operand<'_>, levels: u32) -> bool
     requires { levels < 2 ^ 31 }
-    ensures { result ≡ nat_le (depth.expr_depth expr.now) levels }
+    ensures { result ≡ loops.fits levels (shown_operand operand.now) }
 {
-    expr_depth(expr) <= levels
+    expr_depth(&operand.expr) <= levels
+}
+
+#[tactic(auto, unfolding(es5_tree::specs::Grammar::Nodes::expr_of))]
+pub fn binary<'a>(
+    alloc: Global,
+    left: Operand<'a>,
+    part: Operand<'_>,
+) -> Result<Operand<'a>, AllocError>
+    ensures { IfOk result (λ made. shown_operand made ≡ act.binary (shown_operand left.entry) (shown_operand part.entry)) }
+{
+    let first = left.first;
+    let operator = operator_of(&part.first.kind);
+    let kind = EsKind::Binary(operator, left.expr, part.expr);
+    Ok(Operand {
+        first,
+        expr: expr(alloc, first.pos, kind)?,
+    })
+}
+
+#[tactic(auto, unfolding(es5_tree::specs::Grammar::Nodes::expr_of))]
+pub fn joined<'a>(
+    alloc: Global,
+    which: Logical,
+    left: Operand<'a>,
+    right: EsExpr,
+) -> Result<Operand<'a>, AllocError>
+    ensures { IfOk result (λ made. shown_operand made ≡ loops.joined which (shown_operand left.entry) (expression right)) }
+{
+    let first = left.first;
+    let kind = match which {
+        Logical::And => EsKind::And(left.expr, right),
+        Logical::Or => EsKind::Or(left.expr, right),
+    };
+    Ok(Operand {
+        first,
+        expr: expr(alloc, first.pos, kind)?,
+    })
 }

@@ -168,11 +168,17 @@ equality_part = sequence (token (op mark.Same or op mark.Different)) (named (exp
 unfoldable pub equality_level : R expr_sort
 equality_level = suffixes 1 relation_level equality_part binary
 
+unfoldable pub and_part : R tree
+and_part = behind (op mark.And) (named (expr level.Equality))
+
 unfoldable pub and_level : R expr_sort
-and_level = suffixes 1 equality_level (behind (op mark.And) (named (expr level.Equality))) conjunction
+and_level = suffixes 1 equality_level and_part conjunction
+
+unfoldable pub or_part : R tree
+or_part = behind (op mark.Or) (named (expr level.And))
 
 unfoldable pub or_level : R expr_sort
-or_level = suffixes 1 and_level (behind (op mark.Or) (named (expr level.And))) disjunction
+or_level = suffixes 1 and_level or_part disjunction
 
 -- ---- the conditional operator (11.12) and assignments (11.13)
 
@@ -183,6 +189,9 @@ choices = behind (op mark.Question) (sequence (named (expr level.Assignment)) (b
 unfoldable pub conditional_level : R expr_sort
 conditional_level = suffix 1 or_level (λ l. true) choices conditional_node
 
+unfoldable pub assigned_part : R tree
+assigned_part = behind (op mark.Assign) (named (expr level.Assignment))
+
 -- [target "="] expression       to a name but `arguments`, a member or an index
 unfoldable pub assignment_level : R expr_sort
-assignment_level = suffix 1 conditional_level (λ l. is_target l.1) (behind (op mark.Assign) (named (expr level.Assignment))) assigned
+assignment_level = suffix 1 conditional_level (λ l. is_target l.1) assigned_part assigned
