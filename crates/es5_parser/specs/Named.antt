@@ -16,6 +16,7 @@ use Rattle.es5_parser.specs.declared.names.Part.{Part}
 use Rattle.es5_parser.specs.declared.names.Part.TheVariants as part
 use Rattle.es5_parser.specs.declared.names.Statement.{Statement}
 use Rattle.es5_parser.specs.declared.names.Operand.{Operand}
+use Rattle.es5_parser.specs.declared.names.Choices.{Choices}
 use Rattle.es5_parser.specs.declared.names.Reading.{Reading}
 use Rattle.es5_parser.specs.declared.names.Reading.TheVariants as reading
 use Rattle.es5_parser.specs.Gives.{ahead, Gives}
@@ -29,6 +30,12 @@ shown_stmt s = (statement s.stmt, else_code s.takes_else)
 
 abbrev pub shown_operand : Operand → EsToken × Node
 shown_operand x = (x.first.now, expression x.expr)
+
+abbrev pub shown_choices : Choices → Node × Node
+shown_choices x = (expression x.first, expression x.second)
+
+abbrev pub GivesChoices : Result ((Node × Node) × List EsToken) (List EsToken) → Result Choices Fail → List EsToken → Type 0
+GivesChoices = Gives shown_choices
 
 abbrev pub GivesExpr : Result (Node × List EsToken) (List EsToken) → Result EsExpr Fail → List EsToken → Type 0
 GivesExpr = Gives expression

@@ -1,12 +1,14 @@
 //! Scripts from their tokens (ECMA-262 5.1, sections 11 to 14, as far as the profile goes by now).
 #![tactic(auto)]
 
+mod assignment;
 mod cursor;
 mod fail;
 mod making;
 mod names;
 mod operators;
 mod parse;
+mod statements;
 mod terminal;
 mod tokens;
 #[cfg(test)]

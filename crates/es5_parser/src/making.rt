@@ -5,9 +5,9 @@ ghost use Rattle.es5_tree.specs.Grammar.Nodes as act;
 ghost use Rattle.es5_tree.specs.Grammar.Nodes.{expression};
 ghost use Rattle.es5_tree.specs.Grammar.Terminals as terminals;
 ghost use Rattle.es5_parser.specs.Loops as loops;
-ghost use Rattle.es5_parser.specs.Named.{shown_operand};
+ghost use Rattle.es5_parser.specs.Named.{shown_choices, shown_operand};
 
-use crate::names::Operand;
+use crate::names::{Choices, Operand};
 use crate::operators::Logical;
 use crate::terminal::terminal_of_word;
 use es5_tree::{
@@ -155,6 +155,38 @@ pub fn joined<'a>(
         Logical::And => EsKind::And(left.expr, right),
         Logical::Or => EsKind::Or(left.expr, right),
     };
+    Ok(Operand {
+        first,
+        expr: expr(alloc, first.pos, kind)?,
+    })
+}
+
+#[tactic(auto, unfolding(es5_tree::specs::Grammar::Nodes::expr_of))]
+pub fn conditional<'a>(
+    alloc: Global,
+    test: Operand<'a>,
+    choices: Choices,
+) -> Result<Operand<'a>, AllocError>
+    ensures { IfOk result (λ made. shown_operand made ≡ act.conditional (shown_operand test.entry) (shown_choices choices)) }
+{
+    let first = test.first;
+    let kind = EsKind::Cond(test.expr, choices.first, choices.second);
+    Ok(Operand {
+        first,
+        expr: expr(alloc, first.pos, kind)?,
+    })
+}
+
+#[tactic(auto, unfolding(es5_tree::specs::Grammar::Nodes::expr_of))]
+pub fn assigned<'a>(
+    alloc: Global,
+    target: Operand<'a>,
+    value: EsExpr,
+) -> Result<Operand<'a>, AllocError>
+    ensures { IfOk result (λ made. shown_operand made ≡ act.assigned (shown_operand target.entry) (expression value)) }
+{
+    let first = target.first;
+    let kind = EsKind::Assign(target.expr, value);
     Ok(Operand {
         first,
         expr: expr(alloc, first.pos, kind)?,

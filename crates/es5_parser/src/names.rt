@@ -42,6 +42,13 @@ pub struct Operand<'a> {
     pub expr: EsExpr,
 }
 
+/// The values of a conditional expression.
+#[derive(Drop)]
+pub struct Choices {
+    pub first: EsExpr,
+    pub second: EsExpr,
+}
+
 /// Reads the rules of the grammar, where a node that is made here has `depth` levels below it.
 #[derive(Clone, Copy)]
 pub struct Parser<F> {

@@ -1,9 +1,10 @@
 //! The tokens ahead.
 
-ghost use Rattle.std.specs.Prelude.{◌≡◌, [], ◌∷◌, length, ◌||◌};
+ghost use Rattle.std.specs.Prelude.{◌≡◌, [], ◌∷◌, length, not, ◌||◌};
 ghost use Rattle.grammar.specs.FormReaders.{next_in, read_token};
 ghost use Rattle.grammar.specs.Spelling.{token_in};
 ghost use Rattle.es5_tree.specs.Grammar.Terminals.{code_of, token_code};
+ghost use Rattle.es5_tree.specs.Grammar.Table.{begins_expression};
 ghost use Rattle.es5_parser.specs.Gives.{ahead, GivesToken, one_of, codes};
 
 use crate::fail::Fail;
@@ -52,6 +53,40 @@ impl<'a> Tokens<'a> {
             Some(next) => is_one_of(terminal_of(&next.kind), terminals),
             None => false,
         }
+    }
+
+    /// Whether a terminal stands next that is none of these.
+    pub fn sees_none_of(&self, terminals: &[Terminal]) -> bool
+        ensures { result ≡ next_in (λ t. not (one_of (codes terminals.now) (token_code t))) (ahead self.now) }
+    {
+        match self.rest.first() {
+            Some(next) => !is_one_of(terminal_of(&next.kind), terminals),
+            None => false,
+        }
+    }
+
+    /// Whether an expression can begin here.
+    pub fn begins_expression(&self) -> bool
+        ensures { result ≡ next_in (λ t. begins_expression (token_code t)) (ahead self.now) }
+    {
+        self.sees_one_of(&[
+            Terminal::Name,
+            Terminal::Arguments,
+            Terminal::Num,
+            Terminal::Str,
+            Terminal::Keyword(Keyword::This),
+            Terminal::Keyword(Keyword::Null),
+            Terminal::Keyword(Keyword::True),
+            Terminal::Keyword(Keyword::False),
+            Terminal::Mark(EsMark::OpenParen),
+            Terminal::Mark(EsMark::OpenBracket),
+            Terminal::Mark(EsMark::OpenBrace),
+            Terminal::Keyword(Keyword::Function),
+            Terminal::Mark(EsMark::Not),
+            Terminal::Mark(EsMark::Minus),
+            Terminal::Keyword(Keyword::Typeof),
+            Terminal::Keyword(Keyword::Delete),
+        ])
     }
 
     /// How many tokens are left.
