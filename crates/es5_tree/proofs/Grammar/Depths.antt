@@ -189,9 +189,9 @@ pub exprs_depth : (ns : List Node) → deepest expr_depth (exprs ns) ≡ deepest
 exprs_depth [] = refl
 exprs_depth (n ∷ ns) = ap₂ max (expr_of_depth n) (exprs_depth ns)
 
-pub stmts_depth : (xs : List (Node × ℕ)) → deepest stmt_depth (stmts xs) ≡ deepest (λ x. depth x.0) xs
+pub stmts_depth : (ns : List Node) → deepest stmt_depth (stmts ns) ≡ deepest depth ns
 stmts_depth [] = refl
-stmts_depth (x ∷ xs) = ap₂ max (stmt_of_depth x.0) (stmts_depth xs)
+stmts_depth (n ∷ ns) = ap₂ max (stmt_of_depth n) (stmts_depth ns)
 
 pub expr_if_depth : (o : Option Node) → deep_if expr_depth (expr_if o) ≡ deep_if depth o
 expr_if_depth None = refl
@@ -221,7 +221,7 @@ values_depth (p ∷ ps) = omega (arith, expr_of_depth p.1, values_depth ps)
 pub object_pairs_depth : (pairs : List (EsToken × Node)) (p : Pos) → expr_depth (expr_at p (object pairs)) ≡ suc (deepest (λ p. max 0 (depth p.1)) pairs)
 object_pairs_depth pairs p = omega (arith, object_depth (map (λ p. name_of p.0) pairs) (map (λ p. expr_of p.1) pairs) p, values_depth pairs)
 
-pub function_of_depth : (name : Option EsToken) (params : List EsToken) (body : List (Node × ℕ)) (p : Pos) → expr_depth (expr_at p (function name params body)) ≡ suc (deepest (λ x. depth x.0) body)
+pub function_of_depth : (name : Option EsToken) (params : List EsToken) (body : List Node) (p : Pos) → expr_depth (expr_at p (function name params body)) ≡ suc (deepest depth body)
 function_of_depth name params body p = omega (arith, function_depth (option_map name_of name) (names_of params) (stmts body) p, stmts_depth body)
 
 pub access_depth : (e : EsExpr) (t : EsToken) (args : List EsExpr) (n : ℕ) (p : Pos) → expr_depth (expr_at p (access e t args n)) ≡ suc (max (expr_depth e) (deepest expr_depth args))
@@ -247,16 +247,16 @@ unary_depth (token.Num value) e p = typeof_depth e p
 unary_depth (token.Str text) e p = typeof_depth e p
 unary_depth token.End e p = typeof_depth e p
 
-caught_depth : (o : Option (EsToken × List (Node × ℕ))) → deep_if catch_depth (option_map caught o) ≡ deep_if (λ x. max 0 (deepest (λ y. depth y.0) x.1)) o
+caught_depth : (o : Option (EsToken × List Node)) → deep_if catch_depth (option_map caught o) ≡ deep_if (λ x. max 0 (deepest depth x.1)) o
 caught_depth None = refl
 caught_depth (Some x) = omega (arith, catch_depth_of (name_of x.0) (stmts x.1), stmts_depth x.1)
 
-finally_depth : (o : Option (List (Node × ℕ))) → deep_if (deepest stmt_depth) (option_map stmts o) ≡ deep_if (deepest (λ x. depth x.0)) o
+finally_depth : (o : Option (List Node)) → deep_if (deepest stmt_depth) (option_map stmts o) ≡ deep_if (deepest depth) o
 finally_depth None = refl
 finally_depth (Some xs) = stmts_depth xs
 
-pub tried_depth : (body : List (Node × ℕ)) (o : Option (EsToken × List (Node × ℕ))) (last : Option (List (Node × ℕ)))
-    → stmt_depth (tried (body, (o, last))) ≡ suc (max (deepest (λ x. depth x.0) body) (max (deep_if (λ x. max 0 (deepest (λ y. depth y.0) x.1)) o) (deep_if (deepest (λ x. depth x.0)) last)))
+pub tried_depth : (body : List Node) (o : Option (EsToken × List Node)) (last : Option (List Node))
+    → stmt_depth (tried (body, (o, last))) ≡ suc (max (deepest depth body) (max (deep_if (λ x. max 0 (deepest depth x.1)) o) (deep_if (deepest depth) last)))
 tried_depth body o last = omega (arith, try_statement_depth (stmts body) (option_map caught o) (option_map stmts last), stmts_depth body, caught_depth o, finally_depth last)
 
 pub branched_depth : (x : (Node × (Node × ℕ)) × Option (Node × ℕ)) → depth (branched x).0 ≡ suc (max (max (depth (x.0.0)) (depth (x.0.1.0))) (deep_if (λ y. depth y.0) x.1))

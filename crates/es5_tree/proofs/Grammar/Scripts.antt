@@ -26,23 +26,23 @@ use Rattle.es5_tree.proofs.Grammar.TableMeets.{predictive}
 
 -- ---- tokens
 
-abbrev script_of : List (Node × ℕ) → Script
+abbrev script_of : List Node → Script
 script_of body = record { body = stmts body }
 
 pub one_script_is : OneScript
 one_script_is tokens script other a b = a.tree ∙ ap script_of (one_tree table predictive whole a.body b.body (before_end tokens) a.spells b.spells) ∙ sym b.tree
 
 -- the script is as deep as its statements
-deep_body : (body : List (Node × ℕ)) → script_depth (script_of body) ≡ deepest (λ x. depth x.0) body
+deep_body : (body : List Node) → script_depth (script_of body) ≡ deepest depth body
 deep_body body = highest_of_all stmt_depth (stmts body) ∙ stmts_depth body
 
-within : (tokens : List EsToken) (script : Script) → SpellsInLimit script tokens → (body : List (Node × ℕ)) × SpellsWithin table whole limit body (before_end tokens)
+within : (tokens : List EsToken) (script : Script) → SpellsInLimit script tokens → (body : List Node) × SpellsWithin table whole limit body (before_end tokens)
 unfolding table
 within tokens script h =
     let s = h.spelled in
     (s.body, record { spells = s.spells; shallow = subst (λ n. n ≤ limit) (ap script_depth s.tree ∙ deep_body s.body) h.shallow })
 
-in_limit : (tokens : List EsToken) (body : List (Node × ℕ)) → SpellsWithin table whole limit body (before_end tokens) → SpellsInLimit (script_of body) tokens
+in_limit : (tokens : List EsToken) (body : List Node) → SpellsWithin table whole limit body (before_end tokens) → SpellsInLimit (script_of body) tokens
 unfolding table
 in_limit tokens body h = record { spelled = record { body = body; spells = h.spells; tree = refl }; shallow = subst (λ n. n ≤ limit) (sym (deep_body body)) h.shallow }
 

@@ -12,7 +12,7 @@ use Rattle.es5_tree.specs.declared.token.EsToken.{EsToken}
 use Rattle.es5_tree.specs.Grammar.Terminals.{size, terminal_of, key}
 use Rattle.es5_tree.specs.Grammar.Nodes.{Node, takes_else, branched}
 use Rattle.es5_tree.specs.Grammar.Names.{Name, script, statement, expr, items, pairs, params, sorts, R}
-use Rattle.es5_tree.specs.Grammar.Expressions.{simple, parenthesized, more_items, item_list, array, more_pairs, value_and_more, pair_list, object_literal, more_params, param_list, parameters, block, function_expression, primary, member_part, index_part, arguments, call_part, access_part, call_level, deletion, operation, unary_level, product_part, product_level, sum_part, sum_level, relation_part, relation_level, equality_part, equality_level, and_part, and_level, or_part, or_level, choices, conditional_level, assigned_part, assignment_level}
+use Rattle.es5_tree.specs.Grammar.Expressions.{simple, parenthesized, more_items, item_list, array, more_pairs, value_and_more, pair_list, object_literal, more_params, param_list, parameters, statement_list, block, function_expression, primary, member_part, index_part, arguments, call_part, access_part, call_level, deletion, operation, unary_level, product_part, product_level, sum_part, sum_level, relation_part, relation_level, equality_part, equality_level, and_part, and_level, or_part, or_level, choices, conditional_level, assigned_part, assignment_level}
 use Rattle.es5_tree.specs.Grammar.Statements.{ended, variable_statement, empty_statement, expression_statement, condition, return_statement, throw_statement, break_statement, continue_statement, block_statement, first_branch, both_branches, if_statement, while_statement, catch_part, finally_part, handlers, try_statement, any_statement, whole_script, branches, or_jump}
 use Rattle.es5_tree.specs.Grammar.Table.{table, production, begins, is_nullable, statement_goes_on, goes_on}
 use Rattle.es5_tree.specs.Grammar.Table.{continues as behind_name}
@@ -20,7 +20,7 @@ use Rattle.es5_tree.proofs.Grammar.Codes.{code_within}
 use Rattle.es5_tree.proofs.Grammar.Checks.{c_more_items, c_pairs, c_params, c_call, c_unary, c_product, c_sum, c_relation, c_equality, c_and, c_assignment, c_statement, c_script, first_goes_on}
 
 c_all : (k : Name) → Checks table (production k)
-unfolding table simple parenthesized more_items item_list array more_pairs value_and_more pair_list object_literal more_params param_list parameters block function_expression primary member_part index_part arguments call_part access_part call_level deletion operation unary_level product_part product_level sum_part sum_level relation_part relation_level equality_part equality_level and_part and_level or_part or_level choices conditional_level assigned_part assignment_level ended variable_statement empty_statement expression_statement condition return_statement throw_statement break_statement continue_statement block_statement first_branch both_branches if_statement while_statement catch_part finally_part handlers try_statement any_statement whole_script
+unfolding table simple parenthesized more_items item_list array more_pairs value_and_more pair_list object_literal more_params param_list parameters statement_list block function_expression primary member_part index_part arguments call_part access_part call_level deletion operation unary_level product_part product_level sum_part sum_level relation_part relation_level equality_part equality_level and_part and_level or_part or_level choices conditional_level assigned_part assignment_level ended variable_statement empty_statement expression_statement condition return_statement throw_statement break_statement continue_statement block_statement first_branch both_branches if_statement while_statement catch_part finally_part handlers try_statement any_statement whole_script
 c_all script = c_script
 c_all (statement f l) = c_statement f l
 c_all (expr level.Assignment) = (λ x. omega arith, c_assignment)
@@ -36,15 +36,15 @@ c_all (pairs seen) = c_pairs seen
 c_all (params seen) = c_params seen
 
 g_call : Guarded table call_level
-unfolding table simple parenthesized more_items item_list array more_pairs value_and_more pair_list object_literal more_params param_list parameters block function_expression primary member_part index_part arguments call_part access_part call_level deletion operation unary_level product_part product_level sum_part sum_level relation_part relation_level equality_part equality_level and_part and_level or_part or_level choices conditional_level assigned_part assignment_level ended variable_statement empty_statement expression_statement condition return_statement throw_statement break_statement continue_statement block_statement first_branch both_branches if_statement while_statement catch_part finally_part handlers try_statement any_statement whole_script
+unfolding table simple parenthesized more_items item_list array more_pairs value_and_more pair_list object_literal more_params param_list parameters statement_list block function_expression primary member_part index_part arguments call_part access_part call_level deletion operation unary_level product_part product_level sum_part sum_level relation_part relation_level equality_part equality_level and_part and_level or_part or_level choices conditional_level assigned_part assignment_level ended variable_statement empty_statement expression_statement condition return_statement throw_statement break_statement continue_statement block_statement first_branch both_branches if_statement while_statement catch_part finally_part handlers try_statement any_statement whole_script
 g_call = (tt, ((tt, inr refl), (tt, (tt, tt))))
 
 g_unary : Guarded table unary_level
-unfolding table simple parenthesized more_items item_list array more_pairs value_and_more pair_list object_literal more_params param_list parameters block function_expression primary member_part index_part arguments call_part access_part call_level deletion operation unary_level product_part product_level sum_part sum_level relation_part relation_level equality_part equality_level and_part and_level or_part or_level choices conditional_level assigned_part assignment_level ended variable_statement empty_statement expression_statement condition return_statement throw_statement break_statement continue_statement block_statement first_branch both_branches if_statement while_statement catch_part finally_part handlers try_statement any_statement whole_script
+unfolding table simple parenthesized more_items item_list array more_pairs value_and_more pair_list object_literal more_params param_list parameters statement_list block function_expression primary member_part index_part arguments call_part access_part call_level deletion operation unary_level product_part product_level sum_part sum_level relation_part relation_level equality_part equality_level and_part and_level or_part or_level choices conditional_level assigned_part assignment_level ended variable_statement empty_statement expression_statement condition return_statement throw_statement break_statement continue_statement block_statement first_branch both_branches if_statement while_statement catch_part finally_part handlers try_statement any_statement whole_script
 g_unary = (tt, (tt, g_call))
 
 guards : (k : Name) → Guarded table (production k)
-unfolding table simple parenthesized more_items item_list array more_pairs value_and_more pair_list object_literal more_params param_list parameters block function_expression primary member_part index_part arguments call_part access_part call_level deletion operation unary_level product_part product_level sum_part sum_level relation_part relation_level equality_part equality_level and_part and_level or_part or_level choices conditional_level assigned_part assignment_level ended variable_statement empty_statement expression_statement condition return_statement throw_statement break_statement continue_statement block_statement first_branch both_branches if_statement while_statement catch_part finally_part handlers try_statement any_statement whole_script
+unfolding table simple parenthesized more_items item_list array more_pairs value_and_more pair_list object_literal more_params param_list parameters statement_list block function_expression primary member_part index_part arguments call_part access_part call_level deletion operation unary_level product_part product_level sum_part sum_level relation_part relation_level equality_part equality_level and_part and_level or_part or_level choices conditional_level assigned_part assignment_level ended variable_statement empty_statement expression_statement condition return_statement throw_statement break_statement continue_statement block_statement first_branch both_branches if_statement while_statement catch_part finally_part handlers try_statement any_statement whole_script
 guards script = (tt, inr refl)
 guards (statement true true) = (tt, (tt, (tt, (tt, (tt, (tt, (tt, (tt, (tt, (tt, tt))))))))))
 guards (statement true false) = (tt, (tt, (tt, (tt, (tt, (tt, (tt, (tt, tt))))))))
@@ -63,7 +63,7 @@ guards (pairs seen) = (tt, inr refl)
 guards (params seen) = (tt, inr refl)
 
 all_begin : (k : Name) → Included table (first table (production k)) (begins k)
-unfolding table simple parenthesized more_items item_list array more_pairs value_and_more pair_list object_literal more_params param_list parameters block function_expression primary member_part index_part arguments call_part access_part call_level deletion operation unary_level product_part product_level sum_part sum_level relation_part relation_level equality_part equality_level and_part and_level or_part or_level choices conditional_level assigned_part assignment_level ended variable_statement empty_statement expression_statement condition return_statement throw_statement break_statement continue_statement block_statement first_branch both_branches if_statement while_statement catch_part finally_part handlers try_statement any_statement whole_script
+unfolding table simple parenthesized more_items item_list array more_pairs value_and_more pair_list object_literal more_params param_list parameters statement_list block function_expression primary member_part index_part arguments call_part access_part call_level deletion operation unary_level product_part product_level sum_part sum_level relation_part relation_level equality_part equality_level and_part and_level or_part or_level choices conditional_level assigned_part assignment_level ended variable_statement empty_statement expression_statement condition return_statement throw_statement break_statement continue_statement block_statement first_branch both_branches if_statement while_statement catch_part finally_part handlers try_statement any_statement whole_script
 all_begin script = refl
 all_begin (statement true true) = refl
 all_begin (statement true false) = refl
@@ -82,7 +82,7 @@ all_begin (pairs seen) = refl
 all_begin (params seen) = refl
 
 all_continue : (k : Name) → Included table (continues table (production k)) (behind_name k)
-unfolding table simple parenthesized more_items item_list array more_pairs value_and_more pair_list object_literal more_params param_list parameters block function_expression primary member_part index_part arguments call_part access_part call_level deletion operation unary_level product_part product_level sum_part sum_level relation_part relation_level equality_part equality_level and_part and_level or_part or_level choices conditional_level assigned_part assignment_level ended variable_statement empty_statement expression_statement condition return_statement throw_statement break_statement continue_statement block_statement first_branch both_branches if_statement while_statement catch_part finally_part handlers try_statement any_statement whole_script
+unfolding table simple parenthesized more_items item_list array more_pairs value_and_more pair_list object_literal more_params param_list parameters statement_list block function_expression primary member_part index_part arguments call_part access_part call_level deletion operation unary_level product_part product_level sum_part sum_level relation_part relation_level equality_part equality_level and_part and_level or_part or_level choices conditional_level assigned_part assignment_level ended variable_statement empty_statement expression_statement condition return_statement throw_statement break_statement continue_statement block_statement first_branch both_branches if_statement while_statement catch_part finally_part handlers try_statement any_statement whole_script
 all_continue script = refl
 all_continue (statement true true) = refl
 all_continue (statement true false) = refl
@@ -132,7 +132,7 @@ open_after m t g = elim (or_split (key keyword.Finally t) (key keyword.Else t &&
 
 -- behind the statement of an `if` without an `else`
 single : (f l : Bool) (a : El EsToken Node branches) (t : ℕ) → GoesOn table (first_branch f l) a t → statement_goes_on (branched a).1 t ≡ true
-unfolding table simple parenthesized more_items item_list array more_pairs value_and_more pair_list object_literal more_params param_list parameters block function_expression primary member_part index_part arguments call_part access_part call_level deletion operation unary_level product_part product_level sum_part sum_level relation_part relation_level equality_part equality_level and_part and_level or_part or_level choices conditional_level assigned_part assignment_level ended variable_statement empty_statement expression_statement condition return_statement throw_statement break_statement continue_statement block_statement first_branch both_branches if_statement while_statement catch_part finally_part handlers try_statement any_statement whole_script
+unfolding table simple parenthesized more_items item_list array more_pairs value_and_more pair_list object_literal more_params param_list parameters statement_list block function_expression primary member_part index_part arguments call_part access_part call_level deletion operation unary_level product_part product_level sum_part sum_level relation_part relation_level equality_part equality_level and_part and_level or_part or_level choices conditional_level assigned_part assignment_level ended variable_statement empty_statement expression_statement condition return_statement throw_statement break_statement continue_statement block_statement first_branch both_branches if_statement while_statement catch_part finally_part handlers try_statement any_statement whole_script
 single f l (a, None) t g = open_after (a.1.1) t (first_goes_on f l (a, None) t g)
 single f l (a, Some y) t (b, e, g) = absurd (true≢false (sym (ap (λ z. is_none z.1) e)))
   where
@@ -150,17 +150,17 @@ behind_else f l y t (b, e, inl h) = subst (λ z. statement_goes_on z.1 t ≡ tru
 behind_else f l y t (b, e, inr h) = absurd (true≢false (sym h.0))
 
 both : (f l : Bool) (a : El EsToken Node branches) (t : ℕ) → GoesOn table (both_branches f l) a t → statement_goes_on (branched a).1 t ≡ true
-unfolding table simple parenthesized more_items item_list array more_pairs value_and_more pair_list object_literal more_params param_list parameters block function_expression primary member_part index_part arguments call_part access_part call_level deletion operation unary_level product_part product_level sum_part sum_level relation_part relation_level equality_part equality_level and_part and_level or_part or_level choices conditional_level assigned_part assignment_level ended variable_statement empty_statement expression_statement condition return_statement throw_statement break_statement continue_statement block_statement first_branch both_branches if_statement while_statement catch_part finally_part handlers try_statement any_statement whole_script
+unfolding table simple parenthesized more_items item_list array more_pairs value_and_more pair_list object_literal more_params param_list parameters statement_list block function_expression primary member_part index_part arguments call_part access_part call_level deletion operation unary_level product_part product_level sum_part sum_level relation_part relation_level equality_part equality_level and_part and_level or_part or_level choices conditional_level assigned_part assignment_level ended variable_statement empty_statement expression_statement condition return_statement throw_statement break_statement continue_statement block_statement first_branch both_branches if_statement while_statement catch_part finally_part handlers try_statement any_statement whole_script
 both f l a t (inl g) = single f l a t g
 both f l a t (inr (inl (m, y, e, k, g))) = subst (λ z. statement_goes_on (branched z).1 t ≡ true) (sym e) (behind_else f l y t g)
 both f l a t (inr (inr (k, h))) = subst (λ n. statement_goes_on n t ≡ true) (sym (takes_one a k)) (or_right (key keyword.Finally t) _ (and_both (key keyword.Else t) _ h refl))
 
 if_goes_on : (f l : Bool) (x : Node × ℕ) (t : ℕ) → GoesOn table (if_statement f l) x t → statement_goes_on x.1 t ≡ true
-unfolding table simple parenthesized more_items item_list array more_pairs value_and_more pair_list object_literal more_params param_list parameters block function_expression primary member_part index_part arguments call_part access_part call_level deletion operation unary_level product_part product_level sum_part sum_level relation_part relation_level equality_part equality_level and_part and_level or_part or_level choices conditional_level assigned_part assignment_level ended variable_statement empty_statement expression_statement condition return_statement throw_statement break_statement continue_statement block_statement first_branch both_branches if_statement while_statement catch_part finally_part handlers try_statement any_statement whole_script
+unfolding table simple parenthesized more_items item_list array more_pairs value_and_more pair_list object_literal more_params param_list parameters statement_list block function_expression primary member_part index_part arguments call_part access_part call_level deletion operation unary_level product_part product_level sum_part sum_level relation_part relation_level equality_part equality_level and_part and_level or_part or_level choices conditional_level assigned_part assignment_level ended variable_statement empty_statement expression_statement condition return_statement throw_statement break_statement continue_statement block_statement first_branch both_branches if_statement while_statement catch_part finally_part handlers try_statement any_statement whole_script
 if_goes_on f l x t (a, e, g) = subst (λ z. statement_goes_on z.1 t ≡ true) (sym e) (both f l a t g)
 
 while_goes_on : (f l : Bool) (x : Node × ℕ) (t : ℕ) → GoesOn table (while_statement f l) x t → statement_goes_on x.1 t ≡ true
-unfolding table simple parenthesized more_items item_list array more_pairs value_and_more pair_list object_literal more_params param_list parameters block function_expression primary member_part index_part arguments call_part access_part call_level deletion operation unary_level product_part product_level sum_part sum_level relation_part relation_level equality_part equality_level and_part and_level or_part or_level choices conditional_level assigned_part assignment_level ended variable_statement empty_statement expression_statement condition return_statement throw_statement break_statement continue_statement block_statement first_branch both_branches if_statement while_statement catch_part finally_part handlers try_statement any_statement whole_script
+unfolding table simple parenthesized more_items item_list array more_pairs value_and_more pair_list object_literal more_params param_list parameters statement_list block function_expression primary member_part index_part arguments call_part access_part call_level deletion operation unary_level product_part product_level sum_part sum_level relation_part relation_level equality_part equality_level and_part and_level or_part or_level choices conditional_level assigned_part assignment_level ended variable_statement empty_statement expression_statement condition return_statement throw_statement break_statement continue_statement block_statement first_branch both_branches if_statement while_statement catch_part finally_part handlers try_statement any_statement whole_script
 while_goes_on f l x t (a, e, (b, e', inl (inl h))) = subst (λ z. statement_goes_on z.1 t ≡ true) (sym e) (subst (λ z. statement_goes_on (z.1.1) t ≡ true) (sym e') h)
 while_goes_on f l x t (a, e, (b, e', inl (inr h))) = absurd (true≢false (sym h.0))
 while_goes_on f l x t (a, e, (b, e', inr h)) = absurd (true≢false (sym h.0))
@@ -188,7 +188,7 @@ abbrev all_but_jumps : Bool → Bool → R (marked tree)
 all_but_jumps f l = choice (block_statement f l) (last_seven f l)
 
 always : (f l : Bool) (x : Node × ℕ) (t : ℕ) → t < size → GoesOn table (all_but_jumps f l) x t → statement_goes_on x.1 t ≡ true
-unfolding table simple parenthesized more_items item_list array more_pairs value_and_more pair_list object_literal more_params param_list parameters block function_expression primary member_part index_part arguments call_part access_part call_level deletion operation unary_level product_part product_level sum_part sum_level relation_part relation_level equality_part equality_level and_part and_level or_part or_level choices conditional_level assigned_part assignment_level ended variable_statement empty_statement expression_statement condition return_statement throw_statement break_statement continue_statement block_statement first_branch both_branches if_statement while_statement catch_part finally_part handlers try_statement any_statement whole_script
+unfolding table simple parenthesized more_items item_list array more_pairs value_and_more pair_list object_literal more_params param_list parameters statement_list block function_expression primary member_part index_part arguments call_part access_part call_level deletion operation unary_level product_part product_level sum_part sum_level relation_part relation_level equality_part equality_level and_part and_level or_part or_level choices conditional_level assigned_part assignment_level ended variable_statement empty_statement expression_statement condition return_statement throw_statement break_statement continue_statement block_statement first_branch both_branches if_statement while_statement catch_part finally_part handlers try_statement any_statement whole_script
 always f l x t less = either (block_statement f l) (last_seven f l) x t refl (by_finally (block_statement f l) refl x t less)
     (either variable_statement (last_six f l) x t refl (by_finally variable_statement refl x t less)
     (either empty_statement (last_five f l) x t refl (by_finally empty_statement refl x t less)
@@ -198,13 +198,13 @@ always f l x t less = either (block_statement f l) (last_seven f l) x t refl (by
     (either (try_statement f l) expression_statement x t refl (by_finally (try_statement f l) refl x t less) (by_finally expression_statement refl x t less)))))))
 
 jumps : (f l : Bool) (x : Node × ℕ) (t : ℕ) → t < size → GoesOn table (or_jump l (all_but_jumps f l)) x t → statement_goes_on x.1 t ≡ true
-unfolding table simple parenthesized more_items item_list array more_pairs value_and_more pair_list object_literal more_params param_list parameters block function_expression primary member_part index_part arguments call_part access_part call_level deletion operation unary_level product_part product_level sum_part sum_level relation_part relation_level equality_part equality_level and_part and_level or_part or_level choices conditional_level assigned_part assignment_level ended variable_statement empty_statement expression_statement condition return_statement throw_statement break_statement continue_statement block_statement first_branch both_branches if_statement while_statement catch_part finally_part handlers try_statement any_statement whole_script
+unfolding table simple parenthesized more_items item_list array more_pairs value_and_more pair_list object_literal more_params param_list parameters statement_list block function_expression primary member_part index_part arguments call_part access_part call_level deletion operation unary_level product_part product_level sum_part sum_level relation_part relation_level equality_part equality_level and_part and_level or_part or_level choices conditional_level assigned_part assignment_level ended variable_statement empty_statement expression_statement condition return_statement throw_statement break_statement continue_statement block_statement first_branch both_branches if_statement while_statement catch_part finally_part handlers try_statement any_statement whole_script
 jumps f true x t less = either break_statement (choice continue_statement (all_but_jumps f true)) x t refl (by_finally break_statement refl x t less)
     (either continue_statement (all_but_jumps f true) x t refl (by_finally continue_statement refl x t less) (always f true x t less))
 jumps f false x t less = always f false x t less
 
 statement_by : (f l : Bool) (x : Node × ℕ) (t : ℕ) → t < size → GoesOn table (any_statement f l) x t → statement_goes_on x.1 t ≡ true
-unfolding table simple parenthesized more_items item_list array more_pairs value_and_more pair_list object_literal more_params param_list parameters block function_expression primary member_part index_part arguments call_part access_part call_level deletion operation unary_level product_part product_level sum_part sum_level relation_part relation_level equality_part equality_level and_part and_level or_part or_level choices conditional_level assigned_part assignment_level ended variable_statement empty_statement expression_statement condition return_statement throw_statement break_statement continue_statement block_statement first_branch both_branches if_statement while_statement catch_part finally_part handlers try_statement any_statement whole_script
+unfolding table simple parenthesized more_items item_list array more_pairs value_and_more pair_list object_literal more_params param_list parameters statement_list block function_expression primary member_part index_part arguments call_part access_part call_level deletion operation unary_level product_part product_level sum_part sum_level relation_part relation_level equality_part equality_level and_part and_level or_part or_level choices conditional_level assigned_part assignment_level ended variable_statement empty_statement expression_statement condition return_statement throw_statement break_statement continue_statement block_statement first_branch both_branches if_statement while_statement catch_part finally_part handlers try_statement any_statement whole_script
 statement_by true true x t less = either return_statement (or_jump true (all_but_jumps true true)) x t refl (by_finally return_statement refl x t less) (jumps true true x t less)
 statement_by true false x t less = either return_statement (all_but_jumps true false) x t refl (by_finally return_statement refl x t less) (jumps true false x t less)
 statement_by false l x t less = jumps false l x t less
@@ -222,7 +222,7 @@ by_value (pairs seen) x t less g = class_of (pairs seen) x t less g
 by_value (params seen) x t less g = class_of (params seen) x t less g
 
 empties : (k : Name) → nullable table (production k) ≡ true → is_nullable k ≡ true
-unfolding table simple parenthesized more_items item_list array more_pairs value_and_more pair_list object_literal more_params param_list parameters block function_expression primary member_part index_part arguments call_part access_part call_level deletion operation unary_level product_part product_level sum_part sum_level relation_part relation_level equality_part equality_level and_part and_level or_part or_level choices conditional_level assigned_part assignment_level ended variable_statement empty_statement expression_statement condition return_statement throw_statement break_statement continue_statement block_statement first_branch both_branches if_statement while_statement catch_part finally_part handlers try_statement any_statement whole_script
+unfolding table simple parenthesized more_items item_list array more_pairs value_and_more pair_list object_literal more_params param_list parameters statement_list block function_expression primary member_part index_part arguments call_part access_part call_level deletion operation unary_level product_part product_level sum_part sum_level relation_part relation_level equality_part equality_level and_part and_level or_part or_level choices conditional_level assigned_part assignment_level ended variable_statement empty_statement expression_statement condition return_statement throw_statement break_statement continue_statement block_statement first_branch both_branches if_statement while_statement catch_part finally_part handlers try_statement any_statement whole_script
 empties script h = h
 empties (statement true true) h = h
 empties (statement true false) h = h

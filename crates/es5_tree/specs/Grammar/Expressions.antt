@@ -88,13 +88,17 @@ param_list seen = view {s = pair leaf (list leaf)} (λ x. x.0 ∷ x.1)
 unfoldable pub parameters : R (list leaf)
 parameters = between (op mark.OpenParen) (choice (named (params [])) (absent [])) (op mark.CloseParen)
 
+-- statement*
+unfoldable pub statement_list : Bool → Bool → R (list tree)
+statement_list in_function in_loop = many (view {s = marked tree} (λ x. x.0) (named (statement in_function in_loop)))
+
 -- block : "{" statement* "}" (12.1)
-unfoldable pub block : Bool → Bool → R (list (marked tree))
-block in_function in_loop = between (op mark.OpenBrace) (many (named (statement in_function in_loop))) (op mark.CloseBrace)
+unfoldable pub block : Bool → Bool → R (list tree)
+block in_function in_loop = between (op mark.OpenBrace) (statement_list in_function in_loop) (op mark.CloseBrace)
 
 -- "function" [name] "(" [params] ")" block       a loop around it is none of its own (13)
 unfoldable pub function_expression : R expr_sort
-function_expression = node {s = pair leaf (pair (optional leaf) (pair (list leaf) (list (marked tree))))} (λ x. (x.0, made x.0 (function (x.1.0) (x.1.1.0) (x.1.1.1))))
+function_expression = node {s = pair leaf (pair (optional leaf) (pair (list leaf) (list tree)))} (λ x. (x.0, made x.0 (function (x.1.0) (x.1.1.0) (x.1.1.1))))
     (sequence (token (key keyword.Function)) (sequence (maybe (token (a terminal.Name))) (sequence parameters (block true false))))
 
 unfoldable pub primary : R expr_sort

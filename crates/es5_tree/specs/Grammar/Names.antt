@@ -18,7 +18,7 @@ pub data Name : Type 0 where
   params : List (List ℕ) → Name
 
 abbrev pub sorts : Name → Sort
-sorts script = list (marked tree)
+sorts script = list tree
 sorts (statement in_function in_loop) = marked tree
 sorts (expr level) = tree
 sorts items = list tree

@@ -63,8 +63,8 @@ stmt_of (expression e) = blocks (expr_depth e - 1)
 abbrev pub exprs : List Node → List EsExpr
 exprs ns = map expr_of ns
 
-abbrev pub stmts : List (Node × ℕ) → List EsStmt
-stmts xs = map (λ x. stmt_of x.0) xs
+abbrev pub stmts : List Node → List EsStmt
+stmts ns = map stmt_of ns
 
 abbrev pub expr_if : Option Node → Option EsExpr
 expr_if o = option_map expr_of o
@@ -105,7 +105,7 @@ token_kind _ = kind.Null
 abbrev pub object : List (EsToken × Node) → EsKind
 object pairs = kind.Object (map (λ p. name_of p.0) pairs) (map (λ p. expr_of p.1) pairs)
 
-abbrev pub function : Option EsToken → List EsToken → List (Node × ℕ) → EsKind
+abbrev pub function : Option EsToken → List EsToken → List Node → EsKind
 function name params body = kind.Function (option_map name_of name) (names_of params) (stmts body)
 
 -- ---- members, indices and calls (11.2)
@@ -204,8 +204,8 @@ branched (x, Some y) = (statement (stmt.If (expr_of x.0) (stmt_of (x.1.0)) (Some
 abbrev pub looped : Node × (Node × ℕ) → Node × ℕ
 looped x = (statement (stmt.While (expr_of x.0) (stmt_of (x.1.0))), x.1.1)
 
-abbrev pub caught : EsToken × List (Node × ℕ) → Catch
+abbrev pub caught : EsToken × List Node → Catch
 caught x = roll-Catch (record { name = name_of x.0; body = stmts x.1 })
 
-abbrev pub tried : List (Node × ℕ) × (Option (EsToken × List (Node × ℕ)) × Option (List (Node × ℕ))) → EsStmt
+abbrev pub tried : List Node × (Option (EsToken × List Node) × Option (List Node)) → EsStmt
 tried x = stmt.Try (stmts x.0) (option_map caught (x.1.0)) (option_map stmts (x.1.1))

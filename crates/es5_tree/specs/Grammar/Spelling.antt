@@ -33,7 +33,7 @@ before_end (token ∷ tokens) = up_to_end token.kind (before_end tokens) token
 
 -- The tokens spell the script, its places with it; no expression has a site.
 pub record SpellsScript (script : Script) (tokens : List EsToken) : Type 0 where
-  pub body : List (Node × ℕ)
+  pub body : List Node
   pub spells : Spells table name.script body (before_end tokens)
   pub tree : script ≡ record { body = stmts body }
 

@@ -1,6 +1,6 @@
 -- Statements and scripts (ECMA-262 5.1, sections 12 and 14).
 use Rattle.std.specs.Prelude.{ℕ, Bool, true, false, not, Some, None}
-use Rattle.grammar.specs.Rules.{Sort, leaf, tree, marked, pair, list, optional, token, token_where, sequence, choice, view, node, many, suffix, starting, named}
+use Rattle.grammar.specs.Rules.{Sort, leaf, tree, marked, pair, list, optional, token, token_where, sequence, choice, view, node, suffix, starting, named}
 use Rattle.grammar.specs.CommonRules.{◌or◌, behind, before, between, maybe}
 use Rattle.es5_tree.specs.declared.terminal.Keyword.TheVariants as keyword
 use Rattle.es5_tree.specs.declared.terminal.Level.TheVariants as level
@@ -11,7 +11,7 @@ use Rattle.es5_tree.specs.Grammar.Terminals.{a, op, key}
 use Rattle.es5_tree.specs.Reading.{is_directive}
 use Rattle.es5_tree.specs.Grammar.Nodes.{expr_of, expr_if, stmts, name_of, closed, takes_else, branched, looped, tried}
 use Rattle.es5_tree.specs.Grammar.Names.{statement, expr, R}
-use Rattle.es5_tree.specs.Grammar.Expressions.{block}
+use Rattle.es5_tree.specs.Grammar.Expressions.{statement_list, block}
 
 -- `expression ;` behind a keyword and the like
 unfoldable pub ended : R tree
@@ -68,12 +68,12 @@ abbrev pub branches : Sort
 branches = pair (pair tree (marked tree)) (optional (marked tree))
 
 abbrev pub handlers_sort : Sort
-handlers_sort = pair (optional (pair leaf (list (marked tree)))) (optional (list (marked tree)))
+handlers_sort = pair (optional (pair leaf (list tree))) (optional (list tree))
 
 module _ (in_function in_loop : Bool) where
   -- block (12.1)
   unfoldable pub block_statement : R (marked tree)
-  block_statement = node {s = list (marked tree)} (λ xs. closed (stmt.Block (stmts xs))) (block in_function in_loop)
+  block_statement = node {s = list tree} (λ xs. closed (stmt.Block (stmts xs))) (block in_function in_loop)
 
   -- "if" "(" expression ")" statement ["else" statement]       an `else` belongs to the nearest `if` that takes one (12.5)
   unfoldable pub first_branch : R branches
@@ -90,25 +90,25 @@ module _ (in_function in_loop : Bool) where
   while_statement = node {s = pair tree (marked tree)} looped (behind (key keyword.While) (sequence condition (named (statement in_function true))))
 
   -- "catch" "(" name ")" block
-  unfoldable pub catch_part : R (pair leaf (list (marked tree)))
+  unfoldable pub catch_part : R (pair leaf (list tree))
   catch_part = behind (key keyword.Catch) (sequence (between (op mark.OpenParen) (token (a terminal.Name)) (op mark.CloseParen)) (block in_function in_loop))
 
   -- "finally" block
-  unfoldable pub finally_part : R (list (marked tree))
+  unfoldable pub finally_part : R (list tree)
   finally_part = behind (key keyword.Finally) (block in_function in_loop)
 
   -- one of the two or both
   unfoldable pub handlers : R handlers_sort
-  handlers = choice (sequence (view {s = pair leaf (list (marked tree))} (λ x. Some x) catch_part) (maybe finally_part)) (view {s = list (marked tree)} (λ x. (None, Some x)) finally_part)
+  handlers = choice (sequence (view {s = pair leaf (list tree)} (λ x. Some x) catch_part) (maybe finally_part)) (view {s = list tree} (λ x. (None, Some x)) finally_part)
 
   -- "try" block handlers (12.14)
   unfoldable pub try_statement : R (marked tree)
-  try_statement = node {s = pair (list (marked tree)) handlers_sort} (λ x. closed (tried x)) (behind (key keyword.Try) (sequence (block in_function in_loop) handlers))
+  try_statement = node {s = pair (list tree) handlers_sort} (λ x. closed (tried x)) (behind (key keyword.Try) (sequence (block in_function in_loop) handlers))
 
   unfoldable pub any_statement : R (marked tree)
   any_statement = or_return in_function (or_jump in_loop
       (choice block_statement (choice variable_statement (choice empty_statement (choice if_statement (choice while_statement (choice throw_statement (choice try_statement expression_statement))))))))
 
 -- script : directive ";" statement*       the directive is `"use strict"` or `'use strict'` as it stands (14, 14.1)
-unfoldable pub whole_script : R (list (marked tree))
-whole_script = view {s = pair leaf (list (marked tree))} (λ x. x.1) (sequence (token_where (a terminal.Str) is_directive) (behind (op mark.Semicolon) (many (named (statement false false)))))
+unfoldable pub whole_script : R (list tree)
+whole_script = view {s = pair leaf (list tree)} (λ x. x.1) (sequence (token_where (a terminal.Str) is_directive) (behind (op mark.Semicolon) (statement_list false false)))
