@@ -1,13 +1,17 @@
 -- What stands behind an operand, as the parser's loops read it.
 use Rattle.std.specs.Prelude.{ℕ, Bool, ◌&&◌, List, length, Result, Ok, nat_le}
-use Rattle.grammar.specs.Rules.{deep, leaf, tree, pair}
-use Rattle.grammar.specs.FormReaders.{read_more_suffixes, read_one_suffix}
+use Rattle.grammar.specs.Rules.{deep, leaf, tree, pair, marked, view, named}
+use Rattle.grammar.specs.CommonRules.{behind}
+use Rattle.grammar.specs.FormReaders.{read_many_from, read_more_suffixes, read_one_suffix}
 use Rattle.grammar.specs.Readers.{read_named, read_rule}
 use Rattle.grammar.specs.Checks.{first}
 use Rattle.es5_tree.specs.declared.token.EsToken.{EsToken}
-use Rattle.es5_tree.specs.Grammar.Nodes.{Node, depth, binary, conjunction, disjunction, conditional, assigned, is_target}
-use Rattle.es5_tree.specs.Grammar.Names.{R, expr_sort}
-use Rattle.es5_tree.specs.Grammar.Expressions.{product_part, sum_part, relation_part, equality_part, and_part, or_part, choices, assigned_part}
+use Rattle.es5_tree.specs.Grammar.Nodes.{Node, depth, accessed, binary, conjunction, disjunction, conditional, assigned, is_target}
+use Rattle.es5_tree.specs.declared.terminal.Level.TheVariants as level
+use Rattle.es5_tree.specs.declared.token.EsMark.TheVariants as mark
+use Rattle.es5_tree.specs.Grammar.Names.{R, expr_sort, expr, statement}
+use Rattle.es5_tree.specs.Grammar.Terminals.{op}
+use Rattle.es5_tree.specs.Grammar.Expressions.{product_part, sum_part, relation_part, equality_part, and_part, or_part, choices, assigned_part, access_part}
 use Rattle.es5_tree.specs.Grammar.Table.{table}
 use Rattle.es5_parser.specs.declared.operators.Binary.{Binary}
 use Rattle.es5_parser.specs.declared.operators.Binary.TheVariants as of_two
@@ -53,3 +57,23 @@ target_fits b l = is_target l.1 && fits b l
 
 abbrev pub assigned_behind : ℕ → EsToken × Node → List EsToken → Outcome (EsToken × Node)
 assigned_behind b l ts = read_one_suffix (λ t. first table assigned_part (table.code t)) (target_fits b) assigned (read_rule table (read_named table) assigned_part b) l ts
+
+-- ---- members, indices and calls
+
+abbrev pub accesses : ℕ → ℕ → EsToken × Node → List EsToken → Outcome (EsToken × Node)
+accesses n b l ts = read_more_suffixes (λ t. first table access_part (table.code t)) (fits b) accessed (read_rule table (read_named table) access_part b) n l ts
+
+-- an argument behind others
+abbrev pub next_argument : R tree
+next_argument = behind (op mark.Comma) (named (expr level.Assignment))
+
+abbrev pub more_arguments : ℕ → ℕ → List Node → List EsToken → Outcome (List Node)
+more_arguments n b found ts = read_many_from (λ t. first table next_argument (table.code t)) (read_rule table (read_named table) next_argument b) n found ts
+
+-- ---- statements
+
+abbrev pub one_statement : Bool → Bool → R tree
+one_statement f l = view {s = marked tree} (λ x. x.0) (named (statement f l))
+
+abbrev pub more_statements : Bool → Bool → ℕ → ℕ → List Node → List EsToken → Outcome (List Node)
+more_statements f l n b found ts = read_many_from (λ t. first table (one_statement f l) (table.code t)) (read_rule table (read_named table) (one_statement f l) b) n found ts

@@ -1,12 +1,13 @@
 -- What a parser's function for the parts does that hold one another.
-use Rattle.std.specs.Prelude.{◌≡◌, ℕ, Bool, true, false, List, map, Option, Result, Ok, Err}
+use Rattle.std.specs.Prelude.{◌≡◌, ℕ, Bool, true, false, List, [], ◌∷◌, map, Option, Result, Ok, Err}
 use Rattle.std.specs.Option.{option_map}
 use Rattle.std.specs.declared.alloc.Global.{Global}
 use denote.Ref.{MutBor}
 use Rattle.grammar.specs.Readers.{read_named}
 use Rattle.es5_tree.specs.declared.token.EsToken.{EsToken}
 use Rattle.es5_tree.specs.declared.tree.EsExpr.{EsExpr}
-use Rattle.es5_tree.specs.Grammar.Nodes.{Node, statement, expression}
+use Rattle.es5_tree.specs.declared.tree.EsStmt.{EsStmt}
+use Rattle.es5_tree.specs.Grammar.Nodes.{Node, statement, expression, by_name, by_key, by_arguments}
 use Rattle.es5_tree.specs.Grammar.Names as name
 use Rattle.es5_tree.specs.Grammar.Table.{table}
 use Rattle.es5_parser.specs.declared.tokens.Tokens.{Tokens}
@@ -16,6 +17,8 @@ use Rattle.es5_parser.specs.declared.names.Part.{Part}
 use Rattle.es5_parser.specs.declared.names.Part.TheVariants as part
 use Rattle.es5_parser.specs.declared.names.Statement.{Statement}
 use Rattle.es5_parser.specs.declared.names.Operand.{Operand}
+use Rattle.es5_parser.specs.declared.names.Access.{Access}
+use Rattle.es5_parser.specs.declared.names.Access.TheVariants as access
 use Rattle.es5_parser.specs.declared.names.Choices.{Choices}
 use Rattle.es5_parser.specs.declared.names.Reading.{Reading}
 use Rattle.es5_parser.specs.declared.names.Reading.TheVariants as reading
@@ -36,6 +39,17 @@ shown_choices x = (expression x.first, expression x.second)
 
 abbrev pub GivesChoices : Result ((Node × Node) × List EsToken) (List EsToken) → Result Choices Fail → List EsToken → Type 0
 GivesChoices = Gives shown_choices
+
+abbrev pub shown_access : Access → (EsToken × List Node) × ℕ
+shown_access (access.Member t) = ((t.now, []), by_name)
+shown_access (access.Index t key) = ((t.now, expression key ∷ []), by_key)
+shown_access (access.Call t args) = ((t.now, map expression args), by_arguments)
+
+abbrev pub GivesAccess : Result (((EsToken × List Node) × ℕ) × List EsToken) (List EsToken) → Result Access Fail → List EsToken → Type 0
+GivesAccess = Gives shown_access
+
+abbrev pub GivesStmts : Result (List Node × List EsToken) (List EsToken) → Result (List EsStmt) Fail → List EsToken → Type 0
+GivesStmts = Gives (map statement)
 
 abbrev pub GivesExpr : Result (Node × List EsToken) (List EsToken) → Result EsExpr Fail → List EsToken → Type 0
 GivesExpr = Gives expression

@@ -1,6 +1,7 @@
 //! Scripts from their tokens (ECMA-262 5.1, sections 11 to 14, as far as the profile goes by now).
 #![tactic(auto)]
 
+mod access;
 mod assignment;
 mod cursor;
 mod fail;

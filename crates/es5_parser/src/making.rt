@@ -5,9 +5,9 @@ ghost use Rattle.es5_tree.specs.Grammar.Nodes as act;
 ghost use Rattle.es5_tree.specs.Grammar.Nodes.{expression};
 ghost use Rattle.es5_tree.specs.Grammar.Terminals as terminals;
 ghost use Rattle.es5_parser.specs.Loops as loops;
-ghost use Rattle.es5_parser.specs.Named.{shown_choices, shown_operand};
+ghost use Rattle.es5_parser.specs.Named.{shown_access, shown_choices, shown_operand};
 
-use crate::names::{Choices, Operand};
+use crate::names::{Access, Choices, Operand};
 use crate::operators::Logical;
 use crate::terminal::terminal_of_word;
 use es5_tree::{
@@ -191,4 +191,27 @@ pub fn assigned<'a>(
         first,
         expr: expr(alloc, first.pos, kind)?,
     })
+}
+
+#[tactic(auto, using(crate::proofs::Shown::call_is), unfolding(es5_tree::specs::Grammar::Nodes::expr_of, es5_tree::specs::Grammar::Nodes::access))]
+pub fn accessed<'a>(
+    alloc: Global,
+    value: Operand<'a>,
+    access: Access<'_>,
+) -> Result<Operand<'a>, NoMemory>
+    ensures { IfOk result (λ made. shown_operand made ≡ act.accessed (shown_operand value.entry) (shown_access access.entry)) }
+{
+    let first = value.first;
+    let kind = match access {
+        Access::Member(name) => EsKind::Member(value.expr, name_of(alloc, name)?, name.pos),
+        Access::Index(_, key) => {
+            let pos = key.pos;
+            EsKind::Index(value.expr, key, pos)
+        }
+        Access::Call(_, args) => EsKind::Call(value.expr, args),
+    };
+    match expr(alloc, first.pos, kind) {
+        Ok(expr) => Ok(Operand { first, expr }),
+        Err(_) => Err(NoMemory),
+    }
 }

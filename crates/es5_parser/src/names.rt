@@ -11,6 +11,7 @@ ghost use Rattle.es5_parser.specs.Named.{Nests, GivesExpr, GivesStmt};
 use crate::fail::Fail;
 use crate::tokens::Tokens;
 use es5_tree::{EsExpr, EsStmt, EsToken, Level};
+use sqlite_items::Items;
 use std::alloc::Global;
 
 /// A part that others hold.
@@ -40,6 +41,15 @@ pub enum Reading {
 pub struct Operand<'a> {
     pub first: &'a EsToken,
     pub expr: EsExpr,
+}
+
+/// What stands behind a value: the name of a member, the key of an index with its bracket, or the
+/// arguments of a call with their bracket.
+#[derive(Drop)]
+pub enum Access<'a> {
+    Member(&'a EsToken),
+    Index(&'a EsToken, EsExpr),
+    Call(&'a EsToken, Items<EsExpr>),
 }
 
 /// The values of a conditional expression.

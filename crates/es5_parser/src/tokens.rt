@@ -3,7 +3,8 @@
 ghost use Rattle.std.specs.Prelude.{◌≡◌, [], ◌∷◌, length, not, ◌||◌};
 ghost use Rattle.grammar.specs.FormReaders.{next_in, read_token};
 ghost use Rattle.grammar.specs.Spelling.{token_in};
-ghost use Rattle.es5_tree.specs.Grammar.Terminals.{code_of, token_code};
+ghost use Rattle.es5_tree.specs.declared.token.EsMark.TheVariants as mark;
+ghost use Rattle.es5_tree.specs.Grammar.Terminals.{code_of, op, token_code};
 ghost use Rattle.es5_tree.specs.Grammar.Table.{begins_expression};
 ghost use Rattle.es5_parser.specs.Gives.{ahead, GivesToken, one_of, codes};
 
@@ -87,6 +88,21 @@ impl<'a> Tokens<'a> {
             Terminal::Keyword(Keyword::Typeof),
             Terminal::Keyword(Keyword::Delete),
         ])
+    }
+
+    /// Whether a member, an index or a call can begin here.
+    pub fn sees_access(&self) -> bool
+        ensures { result ≡ next_in (λ t. op mark.Dot (token_code t) || (op mark.OpenBracket (token_code t) || op mark.OpenParen (token_code t))) (ahead self.now) }
+    {
+        match self.rest.first() {
+            Some(next) => {
+                let terminal = terminal_of(&next.kind);
+                is_one_of(terminal, &[Terminal::Mark(EsMark::Dot)])
+                    || (is_one_of(terminal, &[Terminal::Mark(EsMark::OpenBracket)])
+                        || is_one_of(terminal, &[Terminal::Mark(EsMark::OpenParen)]))
+            }
+            None => false,
+        }
     }
 
     /// How many tokens are left.
