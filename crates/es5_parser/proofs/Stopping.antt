@@ -1,7 +1,8 @@
 -- Where a loop over the parts behind a value ends.
-use Rattle.std.proofs.Common.{◌≡◌, ℕ, suc, Bool, true, false, ◌&&◌, List, Result, Ok, refl, ap, ◌∙◌, sym}
+use Rattle.std.proofs.Common.{◌≡◌, ℕ, suc, Bool, true, false, ◌&&◌, List, [], Result, Ok, Err, refl, ap, ◌∙◌, sym}
 use Rattle.std.specs.Prelude.{if◌then◌else◌}
-use Rattle.grammar.specs.FormReaders.{next_in, and_then, read_more_suffixes}
+use Rattle.grammar.specs.FormReaders.{next_in, and_then, read_many, read_many_from, read_more_suffixes}
+use Rattle.grammar.proofs.Loops.{read_many_from_is}
 
 both_false : (c d : Bool) → d ≡ false → (c && d) ≡ false
 both_false true d e = e
@@ -18,3 +19,11 @@ module _ {T A S : Type 0} (first : T → Bool) (fits : A → Bool) (f : A → S 
   -- the value has no room for one
   pub none_fits : fits l ≡ false → read_more_suffixes first fits f q (suc n) l ts ≡ Ok (l, ts)
   none_fits e = ap (λ c. if c then goes_on else Ok (l, ts)) (both_false (next_in first ts) (fits l) e)
+
+keep : {T A : Type 0} (o : Result (A × List T) (List T)) → and_then o (λ ys r. Ok (ys, r)) ≡ o
+keep (Ok y) = refl
+keep (Err y) = refl
+
+-- any number of parts, from none on
+pub many_is : {T A : Type 0} (first : T → Bool) (p : List T → Result (A × List T) (List T)) (n : ℕ) (ts : List T) → read_many_from first p n [] ts ≡ read_many first p n ts
+many_is first p n ts = read_many_from_is first p n [] ts ∙ keep (read_many first p n ts)

@@ -19,7 +19,9 @@ use Rattle.es5_parser.specs.declared.names.Statement.{Statement}
 use Rattle.es5_parser.specs.declared.names.Operand.{Operand}
 use Rattle.es5_parser.specs.declared.names.Access.{Access}
 use Rattle.es5_parser.specs.declared.names.Access.TheVariants as access
+use Rattle.es5_parser.specs.declared.names.Caught.{Caught}
 use Rattle.es5_parser.specs.declared.names.Choices.{Choices}
+use Rattle.es5_parser.specs.declared.names.Handlers.{Handlers}
 use Rattle.es5_parser.specs.declared.names.Reading.{Reading}
 use Rattle.es5_parser.specs.declared.names.Reading.TheVariants as reading
 use Rattle.es5_parser.specs.Gives.{ahead, Gives}
@@ -47,6 +49,21 @@ shown_access (access.Call t args) = ((t.now, map expression args), by_arguments)
 
 abbrev pub GivesAccess : Result (((EsToken × List Node) × ℕ) × List EsToken) (List EsToken) → Result Access Fail → List EsToken → Type 0
 GivesAccess = Gives shown_access
+
+abbrev pub shown_caught : Caught → EsToken × List Node
+shown_caught x = (x.name.now, map statement x.body)
+
+abbrev pub GivesCaught : Result ((EsToken × List Node) × List EsToken) (List EsToken) → Result Caught Fail → List EsToken → Type 0
+GivesCaught = Gives shown_caught
+
+abbrev pub shown_handlers : Handlers → Option (EsToken × List Node) × Option (List Node)
+shown_handlers x = (option_map shown_caught x.catch, option_map (map statement) x.finally)
+
+abbrev pub GivesHandlers : Result ((Option (EsToken × List Node) × Option (List Node)) × List EsToken) (List EsToken) → Result Handlers Fail → List EsToken → Type 0
+GivesHandlers = Gives shown_handlers
+
+abbrev pub GivesStmtAlone : Result (Node × List EsToken) (List EsToken) → Result EsStmt Fail → List EsToken → Type 0
+GivesStmtAlone = Gives statement
 
 abbrev pub GivesStmts : Result (List Node × List EsToken) (List EsToken) → Result (List EsStmt) Fail → List EsToken → Type 0
 GivesStmts = Gives (map statement)

@@ -3,12 +3,14 @@
 
 mod access;
 mod assignment;
+mod blocks;
 mod cursor;
 mod fail;
 mod making;
 mod names;
 mod operators;
 mod parse;
+mod primary;
 mod statements;
 mod terminal;
 mod tokens;

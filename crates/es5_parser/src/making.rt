@@ -1,17 +1,17 @@
 //! Expressions and statements from tokens and their parts.
 
-ghost use Rattle.std.specs.Prelude.{◌≡◌, ◌<◌, ◌^◌, IfOk};
+ghost use Rattle.std.specs.Prelude.{◌≡◌, ◌<◌, ◌^◌, map, IfOk};
 ghost use Rattle.es5_tree.specs.Grammar.Nodes as act;
-ghost use Rattle.es5_tree.specs.Grammar.Nodes.{expression};
+ghost use Rattle.es5_tree.specs.Grammar.Nodes.{expression, statement};
 ghost use Rattle.es5_tree.specs.Grammar.Terminals as terminals;
 ghost use Rattle.es5_parser.specs.Loops as loops;
-ghost use Rattle.es5_parser.specs.Named.{shown_access, shown_choices, shown_operand};
+ghost use Rattle.es5_parser.specs.Named.{shown_access, shown_caught, shown_choices, shown_handlers, shown_operand};
 
-use crate::names::{Access, Choices, Operand};
+use crate::names::{Access, Caught, Choices, Handlers, Operand};
 use crate::operators::Logical;
 use crate::terminal::terminal_of_word;
 use es5_tree::{
-    EsExpr, EsKind, EsMark, EsToken, EsTokenKind, Keyword, Operator, Terminal, expr_depth, is_word,
+    Catch, EsExpr, EsKind, EsMark, EsStmt, EsStmts, EsToken, EsTokenKind, Keyword, Operator, Terminal, expr_depth, is_word,
 };
 use opal_base::{NoMemory, Pos, Units};
 use sqlite_items::Boxed;
@@ -214,4 +214,43 @@ pub fn accessed<'a>(
         Ok(expr) => Ok(Operand { first, expr }),
         Err(_) => Err(NoMemory),
     }
+}
+
+#[tactic(auto, using(crate::proofs::Shown::stmts_back))]
+fn caught(alloc: Global, part: Caught<'_>) -> Result<Catch, NoMemory>
+    ensures { IfOk result (λ made. made ≡ act.caught (shown_caught part.entry)) }
+{
+    Ok(Catch {
+        name: name_of(alloc, part.name)?,
+        body: part.body,
+    })
+}
+
+#[tactic(auto, using(crate::proofs::Shown::stmts_back))]
+pub fn tried(alloc: Global, body: EsStmts, handlers: Handlers<'_>) -> Result<EsStmt, NoMemory>
+    ensures { IfOk result (λ made. made ≡ act.tried (map statement body, shown_handlers handlers.entry)) }
+{
+    let Handlers { catch, finally } = handlers;
+    let catch = match catch {
+        Some(part) => Some(caught(alloc, part)?),
+        None => None,
+    };
+    Ok(EsStmt::Try {
+        body,
+        catch,
+        finally,
+    })
+}
+
+/// An operator before its value.
+#[tactic(auto, unfolding(es5_tree::specs::Grammar::Nodes::expr_of))]
+pub fn negated<'a>(alloc: Global, part: Operand<'a>) -> Result<Operand<'a>, AllocError>
+    ensures { IfOk result (λ made. shown_operand made ≡ act.negated (shown_operand part.entry)) }
+{
+    let first = part.first;
+    let kind = unary_kind(&first.kind, part.expr);
+    Ok(Operand {
+        first,
+        expr: expr(alloc, first.pos, kind)?,
+    })
 }

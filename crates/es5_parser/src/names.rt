@@ -10,7 +10,7 @@ ghost use Rattle.es5_parser.specs.Named.{Nests, GivesExpr, GivesStmt};
 
 use crate::fail::Fail;
 use crate::tokens::Tokens;
-use es5_tree::{EsExpr, EsStmt, EsToken, Level};
+use es5_tree::{EsExpr, EsStmt, EsStmts, EsToken, Level};
 use sqlite_items::Items;
 use std::alloc::Global;
 
@@ -50,6 +50,20 @@ pub enum Access<'a> {
     Member(&'a EsToken),
     Index(&'a EsToken, EsExpr),
     Call(&'a EsToken, Items<EsExpr>),
+}
+
+/// The name that a `catch` gives to what was thrown, and its block.
+#[derive(Drop)]
+pub struct Caught<'a> {
+    pub name: &'a EsToken,
+    pub body: EsStmts,
+}
+
+/// What stands behind the block of a `try`.
+#[derive(Drop)]
+pub struct Handlers<'a> {
+    pub catch: Option<Caught<'a>>,
+    pub finally: Option<EsStmts>,
 }
 
 /// The values of a conditional expression.

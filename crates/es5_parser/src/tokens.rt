@@ -5,7 +5,7 @@ ghost use Rattle.grammar.specs.FormReaders.{next_in, read_token};
 ghost use Rattle.grammar.specs.Spelling.{token_in};
 ghost use Rattle.es5_tree.specs.declared.token.EsMark.TheVariants as mark;
 ghost use Rattle.es5_tree.specs.Grammar.Terminals.{code_of, op, token_code};
-ghost use Rattle.es5_tree.specs.Grammar.Table.{begins_expression};
+ghost use Rattle.es5_tree.specs.Grammar.Table.{begins_expression, begins_statement};
 ghost use Rattle.es5_parser.specs.Gives.{ahead, GivesToken, one_of, codes};
 
 use crate::fail::Fail;
@@ -87,6 +87,39 @@ impl<'a> Tokens<'a> {
             Terminal::Mark(EsMark::Minus),
             Terminal::Keyword(Keyword::Typeof),
             Terminal::Keyword(Keyword::Delete),
+        ])
+    }
+
+    /// Whether a statement can begin here.
+    pub fn begins_statement(&self) -> bool
+        ensures { result ≡ next_in (λ t. begins_statement (token_code t)) (ahead self.now) }
+    {
+        self.sees_one_of(&[
+            Terminal::Name,
+            Terminal::Arguments,
+            Terminal::Num,
+            Terminal::Str,
+            Terminal::Keyword(Keyword::This),
+            Terminal::Keyword(Keyword::Null),
+            Terminal::Keyword(Keyword::True),
+            Terminal::Keyword(Keyword::False),
+            Terminal::Mark(EsMark::OpenParen),
+            Terminal::Mark(EsMark::OpenBracket),
+            Terminal::Mark(EsMark::OpenBrace),
+            Terminal::Keyword(Keyword::Function),
+            Terminal::Mark(EsMark::Not),
+            Terminal::Mark(EsMark::Minus),
+            Terminal::Keyword(Keyword::Typeof),
+            Terminal::Keyword(Keyword::Delete),
+            Terminal::Keyword(Keyword::Var),
+            Terminal::Mark(EsMark::Semicolon),
+            Terminal::Keyword(Keyword::If),
+            Terminal::Keyword(Keyword::While),
+            Terminal::Keyword(Keyword::Throw),
+            Terminal::Keyword(Keyword::Try),
+            Terminal::Keyword(Keyword::Return),
+            Terminal::Keyword(Keyword::Break),
+            Terminal::Keyword(Keyword::Continue),
         ])
     }
 
