@@ -34,5 +34,5 @@ pub use sign::{SIGNS, Sign};
 pub use terminal::{KEYWORDS, Keyword, Level, Terminal};
 pub use token::{EsMark, EsStop, EsToken, EsTokenKind, EsTokens};
 pub use tree::{Catch, EsExpr, EsKind, EsStmt, EsStmts, Operator, Script};
-pub use tree_depth::{es_depth, expr_depth};
+pub use tree_depth::{es_depth, expr_depth, stmt_depth};
 pub use word::{is_word, word_units};

@@ -53,9 +53,11 @@ fn of_kind(kind: &EsKind) -> u32
     }
 }
 
+/// The number of statements and expressions on the longest path of a statement, or `u32::MAX`
+/// where there are more.
 #[cycle(depth)]
 #[tactic(auto, unfolding(crate::specs::Depth::expr_depth, crate::specs::Depth::kind_depth, crate::specs::Depth::stmt_depth, crate::specs::Depth::catch_depth))]
-fn of_stmt(stmt: &EsStmt) -> u32
+pub fn stmt_depth(stmt: &EsStmt) -> u32
     ensures { result ≡ min (spec.stmt_depth stmt.now) u32.MAX }
 {
     let parts = match stmt {
@@ -64,12 +66,12 @@ fn of_stmt(stmt: &EsStmt) -> u32
         EsStmt::Block(body) => deepest_stmt(body),
         EsStmt::If(test, yes, no) => {
             let otherwise = match no {
-                Some(no) => of_stmt(no.get()),
+                Some(no) => stmt_depth(no.get()),
                 None => 0,
             };
-            expr_depth(test).max(of_stmt(yes.get())).max(otherwise)
+            expr_depth(test).max(stmt_depth(yes.get())).max(otherwise)
         }
-        EsStmt::While(test, body) => expr_depth(test).max(of_stmt(body.get())),
+        EsStmt::While(test, body) => expr_depth(test).max(stmt_depth(body.get())),
         EsStmt::Return(value) => optional(value),
         EsStmt::Break | EsStmt::Continue | EsStmt::Empty => 0,
         EsStmt::Throw(value) => expr_depth(value),
@@ -127,7 +129,7 @@ fn deepest_stmt(stmts: &EsStmts) -> u32
 {
     let mut most = 0;
     for stmt in stmts.as_slice() {
-        most = most.max(of_stmt(stmt));
+        most = most.max(stmt_depth(stmt));
     }
     most
 }
