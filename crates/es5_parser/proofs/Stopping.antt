@@ -1,6 +1,6 @@
 -- Where a loop over the parts behind a value ends.
-use Rattle.std.proofs.Common.{◌≡◌, ℕ, suc, Bool, true, false, ◌&&◌, List, [], Result, Ok, Err, refl, ap, ◌∙◌, sym}
-use Rattle.std.specs.Prelude.{if◌then◌else◌}
+use Rattle.std.proofs.Common.{arith, ◌≡◌, ℕ, suc, Bool, true, false, ◌&&◌, List, [], Result, Ok, Err, refl, ap, ◌∙◌, sym}
+use Rattle.std.specs.Prelude.{if◌then◌else◌, nat_le, max}
 use Rattle.grammar.specs.FormReaders.{next_in, and_then, read_many, read_many_from, read_more_suffixes}
 use Rattle.grammar.proofs.Loops.{read_many_from_is}
 
@@ -27,3 +27,7 @@ keep (Err y) = refl
 -- any number of parts, from none on
 pub many_is : {T A : Type 0} (first : T → Bool) (p : List T → Result (A × List T) (List T)) (n : ℕ) (ts : List T) → read_many_from first p n [] ts ≡ read_many first p n ts
 many_is first p n ts = read_many_from_is first p n [] ts ∙ keep (read_many first p n ts)
+
+-- the test and the statement of an `if` are within some levels
+pub most_fits : (a b n : ℕ) → nat_le (max (max a (b)) 0) n ≡ (nat_le a n && nat_le b n)
+most_fits a b n = search (arith)

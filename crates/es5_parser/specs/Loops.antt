@@ -1,6 +1,6 @@
 -- What stands behind an operand, as the parser's loops read it.
-use Rattle.std.specs.Prelude.{ℕ, Bool, ◌&&◌, List, length, Result, Ok, nat_le}
-use Rattle.grammar.specs.Rules.{deep, leaf, tree, pair, marked, view, named}
+use Rattle.std.specs.Prelude.{ℕ, Bool, ◌&&◌, Option, List, length, Result, Ok, nat_le}
+use Rattle.grammar.specs.Rules.{deep, leaf, tree, pair, marked, choice, view, named}
 use Rattle.grammar.specs.CommonRules.{behind}
 use Rattle.grammar.specs.FormReaders.{read_many_from, read_more_suffixes, read_one_suffix}
 use Rattle.grammar.specs.Readers.{read_named, read_rule}
@@ -12,6 +12,7 @@ use Rattle.es5_tree.specs.declared.token.EsMark.TheVariants as mark
 use Rattle.es5_tree.specs.Grammar.Names.{R, expr_sort, expr, statement}
 use Rattle.es5_tree.specs.Grammar.Terminals.{op}
 use Rattle.es5_tree.specs.Grammar.Expressions.{product_part, sum_part, relation_part, equality_part, and_part, or_part, choices, assigned_part, access_part}
+use Rattle.es5_tree.specs.Grammar.Statements.{branches, or_jump, variable_statement, empty_statement, expression_statement, throw_statement, block_statement, if_statement, while_statement, try_statement}
 use Rattle.es5_tree.specs.Grammar.Table.{table}
 use Rattle.es5_parser.specs.declared.operators.Binary.{Binary}
 use Rattle.es5_parser.specs.declared.operators.Binary.TheVariants as of_two
@@ -77,3 +78,11 @@ one_statement f l = view {s = marked tree} (λ x. x.0) (named (statement f l))
 
 abbrev pub more_statements : Bool → Bool → ℕ → ℕ → List Node → List EsToken → Outcome (List Node)
 more_statements f l n b found ts = read_many_from (λ t. first table (one_statement f l) (table.code t)) (read_rule table (read_named table) (one_statement f l) b) n found ts
+
+-- a test, a statement and maybe another have no more levels than that
+abbrev pub branches_fit : ℕ → (Node × (Node × ℕ)) × Option (Node × ℕ) → Bool
+branches_fit b x = nat_le (deep EsToken depth branches x) b
+
+-- a statement that is no jump
+abbrev pub plain_statement : Bool → Bool → R (marked tree)
+plain_statement f l = choice (block_statement f l) (choice variable_statement (choice empty_statement (choice (if_statement f l) (choice (while_statement f l) (choice throw_statement (choice (try_statement f l) expression_statement))))))

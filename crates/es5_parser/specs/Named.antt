@@ -1,5 +1,5 @@
 -- What a parser's function for the parts does that hold one another.
-use Rattle.std.specs.Prelude.{◌≡◌, ℕ, Bool, true, false, List, [], ◌∷◌, map, Option, Result, Ok, Err}
+use Rattle.std.specs.Prelude.{◌≡◌, ℕ, Bool, true, false, List, [], ◌∷◌, map, Option, None, Result, Ok, Err}
 use Rattle.std.specs.Option.{option_map}
 use Rattle.std.specs.declared.alloc.Global.{Global}
 use denote.Ref.{MutBor}
@@ -19,6 +19,7 @@ use Rattle.es5_parser.specs.declared.names.Statement.{Statement}
 use Rattle.es5_parser.specs.declared.names.Operand.{Operand}
 use Rattle.es5_parser.specs.declared.names.Access.{Access}
 use Rattle.es5_parser.specs.declared.names.Access.TheVariants as access
+use Rattle.es5_parser.specs.declared.names.Branch.{Branch}
 use Rattle.es5_parser.specs.declared.names.Caught.{Caught}
 use Rattle.es5_parser.specs.declared.names.Choices.{Choices}
 use Rattle.es5_parser.specs.declared.names.Handlers.{Handlers}
@@ -67,6 +68,12 @@ GivesStmtAlone = Gives statement
 
 abbrev pub GivesStmts : Result (List Node × List EsToken) (List EsToken) → Result (List EsStmt) Fail → List EsToken → Type 0
 GivesStmts = Gives (map statement)
+
+abbrev pub shown_branch : Branch → (Node × (Node × ℕ)) × Option (Node × ℕ)
+shown_branch x = ((expression x.test, shown_stmt x.first), None)
+
+abbrev pub GivesBranch : Result (((Node × (Node × ℕ)) × Option (Node × ℕ)) × List EsToken) (List EsToken) → Result Branch Fail → List EsToken → Type 0
+GivesBranch = Gives shown_branch
 
 abbrev pub GivesExpr : Result (Node × List EsToken) (List EsToken) → Result EsExpr Fail → List EsToken → Type 0
 GivesExpr = Gives expression

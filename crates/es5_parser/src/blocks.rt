@@ -94,7 +94,7 @@ impl<F: Fn(Global, &mut Tokens<'_>, Part, u32) -> Result<Reading, Fail>> Parser<
     }
 
     #[tactic(auto, using(crate::proofs::Shown::stmts_back), unfolding(es5_tree::specs::Grammar::Table::table, es5_tree::specs::Grammar::Statements::block_statement))]
-    fn block_statement(
+    pub fn block_statement(
         &self,
         tokens: &mut Tokens<'_>,
         in_function: bool,
@@ -171,7 +171,7 @@ impl<F: Fn(Global, &mut Tokens<'_>, Part, u32) -> Result<Reading, Fail>> Parser<
     }
 
     #[tactic(auto, unfolding(es5_tree::specs::Grammar::Table::table, es5_tree::specs::Grammar::Statements::try_statement))]
-    fn try_statement(
+    pub fn try_statement(
         &self,
         tokens: &mut Tokens<'_>,
         in_function: bool,

@@ -5,6 +5,7 @@ mod access;
 mod assignment;
 mod blocks;
 mod cursor;
+mod dispatch;
 mod fail;
 mod making;
 mod names;

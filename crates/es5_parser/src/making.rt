@@ -1,17 +1,17 @@
 //! Expressions and statements from tokens and their parts.
 
-ghost use Rattle.std.specs.Prelude.{◌≡◌, ◌<◌, ◌^◌, map, IfOk};
+ghost use Rattle.std.specs.Prelude.{◌≡◌, ◌<◌, ◌^◌, map, IfOk, Some};
 ghost use Rattle.es5_tree.specs.Grammar.Nodes as act;
 ghost use Rattle.es5_tree.specs.Grammar.Nodes.{expression, statement};
 ghost use Rattle.es5_tree.specs.Grammar.Terminals as terminals;
 ghost use Rattle.es5_parser.specs.Loops as loops;
-ghost use Rattle.es5_parser.specs.Named.{shown_access, shown_caught, shown_choices, shown_handlers, shown_operand};
+ghost use Rattle.es5_parser.specs.Named.{shown_access, shown_branch, shown_caught, shown_choices, shown_handlers, shown_operand, shown_stmt};
 
-use crate::names::{Access, Caught, Choices, Handlers, Operand};
+use crate::names::{Access, Branch, Caught, Choices, Handlers, Operand, Statement};
 use crate::operators::Logical;
 use crate::terminal::terminal_of_word;
 use es5_tree::{
-    Catch, EsExpr, EsKind, EsMark, EsStmt, EsStmts, EsToken, EsTokenKind, Keyword, Operator, Terminal, expr_depth, is_word,
+    Catch, EsExpr, EsKind, EsMark, EsStmt, EsStmts, EsToken, EsTokenKind, Keyword, Operator, Terminal, expr_depth, is_word, stmt_depth,
 };
 use opal_base::{NoMemory, Pos, Units};
 use sqlite_items::Boxed;
@@ -252,5 +252,40 @@ pub fn negated<'a>(alloc: Global, part: Operand<'a>) -> Result<Operand<'a>, Allo
     Ok(Operand {
         first,
         expr: expr(alloc, first.pos, kind)?,
+    })
+}
+
+/// Whether the test of an `if` and its statement have no more levels than that.
+#[tactic(auto, using(crate::proofs::Stopping::most_fits))]
+pub fn branch_fits(branch: &Branch, levels: u32) -> bool
+    requires { levels < 2 ^ 31 }
+    ensures { result ≡ loops.branches_fit levels (shown_branch branch.now) }
+{
+    expr_depth(&branch.test) <= levels && stmt_depth(&branch.first.stmt) <= levels
+}
+
+#[tactic(auto, unfolding(es5_tree::specs::Grammar::Nodes::expr_of, es5_tree::specs::Grammar::Nodes::stmt_of))]
+pub fn short_if(alloc: Global, branch: Branch) -> Result<Statement, AllocError>
+    ensures { IfOk result (λ made. shown_stmt made ≡ act.branched (shown_branch branch)) }
+{
+    let Branch { test, first } = branch;
+    let first = Boxed::new(alloc, first.stmt)?;
+    Ok(Statement {
+        stmt: EsStmt::If(test, first, None),
+        takes_else: true,
+    })
+}
+
+#[tactic(auto, unfolding(es5_tree::specs::Grammar::Nodes::expr_of, es5_tree::specs::Grammar::Nodes::stmt_of))]
+pub fn long_if(alloc: Global, branch: Branch, second: Statement) -> Result<Statement, AllocError>
+    ensures { IfOk result (λ made. shown_stmt made ≡ act.branched ((shown_branch branch).0, Some (shown_stmt second))) }
+{
+    let Branch { test, first } = branch;
+    let Statement { stmt, takes_else } = second;
+    let first = Boxed::new(alloc, first.stmt)?;
+    let second = Boxed::new(alloc, stmt)?;
+    Ok(Statement {
+        stmt: EsStmt::If(test, first, Some(second)),
+        takes_else,
     })
 }

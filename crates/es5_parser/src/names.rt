@@ -66,6 +66,13 @@ pub struct Handlers<'a> {
     pub finally: Option<EsStmts>,
 }
 
+/// The test of an `if` and its statement.
+#[derive(Drop)]
+pub struct Branch {
+    pub test: EsExpr,
+    pub first: Statement,
+}
+
 /// The values of a conditional expression.
 #[derive(Drop)]
 pub struct Choices {

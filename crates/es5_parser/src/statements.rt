@@ -38,7 +38,7 @@ impl<F: Fn(Global, &mut Tokens<'_>, Part, u32) -> Result<Reading, Fail>> Parser<
     }
 
     #[tactic(auto, unfolding(es5_tree::specs::Grammar::Table::table, es5_tree::specs::Grammar::Statements::empty_statement))]
-    fn empty_statement(&self, tokens: &mut Tokens<'_>) -> Result<Statement, Fail>
+    pub fn empty_statement(&self, tokens: &mut Tokens<'_>) -> Result<Statement, Fail>
         ensures { GivesStmt (read_rule table (read_named table) g.empty_statement (suc self.now.depth) (ahead tokens.old)) result (ahead tokens.new) }
     {
         tokens.take(Terminal::Mark(EsMark::Semicolon))?;
@@ -46,7 +46,7 @@ impl<F: Fn(Global, &mut Tokens<'_>, Part, u32) -> Result<Reading, Fail>> Parser<
     }
 
     #[tactic(auto, unfolding(es5_tree::specs::Grammar::Table::table, es5_tree::specs::Grammar::Statements::expression_statement, es5_tree::specs::Grammar::Nodes::expr_of))]
-    fn expression_statement(&self, tokens: &mut Tokens<'_>) -> Result<Statement, Fail>
+    pub fn expression_statement(&self, tokens: &mut Tokens<'_>) -> Result<Statement, Fail>
         requires below { Nests self.now.depth (F.pre self.now.part) (F.post self.now.part) }
         ensures { GivesStmt (read_rule table (read_named table) g.expression_statement (suc self.now.depth) (ahead tokens.old)) result (ahead tokens.new) }
     {
@@ -62,7 +62,7 @@ impl<F: Fn(Global, &mut Tokens<'_>, Part, u32) -> Result<Reading, Fail>> Parser<
     }
 
     #[tactic(auto, unfolding(es5_tree::specs::Grammar::Table::table, es5_tree::specs::Grammar::Statements::throw_statement, es5_tree::specs::Grammar::Nodes::expr_of))]
-    fn throw_statement(&self, tokens: &mut Tokens<'_>) -> Result<Statement, Fail>
+    pub fn throw_statement(&self, tokens: &mut Tokens<'_>) -> Result<Statement, Fail>
         requires below { Nests self.now.depth (F.pre self.now.part) (F.post self.now.part) }
         ensures { GivesStmt (read_rule table (read_named table) g.throw_statement (suc self.now.depth) (ahead tokens.old)) result (ahead tokens.new) }
     {
@@ -72,7 +72,7 @@ impl<F: Fn(Global, &mut Tokens<'_>, Part, u32) -> Result<Reading, Fail>> Parser<
     }
 
     #[tactic(auto, unfolding(es5_tree::specs::Grammar::Table::table, es5_tree::specs::Grammar::Statements::break_statement))]
-    fn break_statement(&self, tokens: &mut Tokens<'_>) -> Result<Statement, Fail>
+    pub fn break_statement(&self, tokens: &mut Tokens<'_>) -> Result<Statement, Fail>
         ensures { GivesStmt (read_rule table (read_named table) g.break_statement (suc self.now.depth) (ahead tokens.old)) result (ahead tokens.new) }
     {
         tokens.take(Terminal::Keyword(Keyword::Break))?;
@@ -81,7 +81,7 @@ impl<F: Fn(Global, &mut Tokens<'_>, Part, u32) -> Result<Reading, Fail>> Parser<
     }
 
     #[tactic(auto, unfolding(es5_tree::specs::Grammar::Table::table, es5_tree::specs::Grammar::Statements::continue_statement))]
-    fn continue_statement(&self, tokens: &mut Tokens<'_>) -> Result<Statement, Fail>
+    pub fn continue_statement(&self, tokens: &mut Tokens<'_>) -> Result<Statement, Fail>
         ensures { GivesStmt (read_rule table (read_named table) g.continue_statement (suc self.now.depth) (ahead tokens.old)) result (ahead tokens.new) }
     {
         tokens.take(Terminal::Keyword(Keyword::Continue))?;
@@ -90,7 +90,7 @@ impl<F: Fn(Global, &mut Tokens<'_>, Part, u32) -> Result<Reading, Fail>> Parser<
     }
 
     #[tactic(auto, unfolding(es5_tree::specs::Grammar::Table::table, es5_tree::specs::Grammar::Statements::condition))]
-    fn condition(&self, tokens: &mut Tokens<'_>) -> Result<EsExpr, Fail>
+    pub fn condition(&self, tokens: &mut Tokens<'_>) -> Result<EsExpr, Fail>
         requires below { Nests self.now.depth (F.pre self.now.part) (F.post self.now.part) }
         ensures { GivesExpr (read_rule table (read_named table) g.condition self.now.depth (ahead tokens.old)) result (ahead tokens.new) }
     {
@@ -101,7 +101,7 @@ impl<F: Fn(Global, &mut Tokens<'_>, Part, u32) -> Result<Reading, Fail>> Parser<
     }
 
     #[tactic(auto, unfolding(es5_tree::specs::Grammar::Table::table, es5_tree::specs::Grammar::Statements::return_statement, es5_tree::specs::Grammar::Nodes::expr_of))]
-    fn return_statement(&self, tokens: &mut Tokens<'_>) -> Result<Statement, Fail>
+    pub fn return_statement(&self, tokens: &mut Tokens<'_>) -> Result<Statement, Fail>
         requires below { Nests self.now.depth (F.pre self.now.part) (F.post self.now.part) }
         ensures { GivesStmt (read_rule table (read_named table) g.return_statement (suc self.now.depth) (ahead tokens.old)) result (ahead tokens.new) }
     {
@@ -116,7 +116,7 @@ impl<F: Fn(Global, &mut Tokens<'_>, Part, u32) -> Result<Reading, Fail>> Parser<
     }
 
     #[tactic(auto, unfolding(es5_tree::specs::Grammar::Table::table, es5_tree::specs::Grammar::Statements::variable_statement, es5_tree::specs::Grammar::Nodes::expr_of))]
-    fn variable_statement(&self, tokens: &mut Tokens<'_>) -> Result<Statement, Fail>
+    pub fn variable_statement(&self, tokens: &mut Tokens<'_>) -> Result<Statement, Fail>
         requires below { Nests self.now.depth (F.pre self.now.part) (F.post self.now.part) }
         ensures { GivesStmt (read_rule table (read_named table) g.variable_statement (suc self.now.depth) (ahead tokens.old)) result (ahead tokens.new) }
     {
@@ -134,7 +134,7 @@ impl<F: Fn(Global, &mut Tokens<'_>, Part, u32) -> Result<Reading, Fail>> Parser<
     }
 
     #[tactic(auto, unfolding(es5_tree::specs::Grammar::Table::table, es5_tree::specs::Grammar::Statements::while_statement, es5_tree::specs::Grammar::Nodes::expr_of, es5_tree::specs::Grammar::Nodes::stmt_of))]
-    fn while_statement(&self, tokens: &mut Tokens<'_>, in_function: bool, in_loop: bool) -> Result<Statement, Fail>
+    pub fn while_statement(&self, tokens: &mut Tokens<'_>, in_function: bool, in_loop: bool) -> Result<Statement, Fail>
         requires below { Nests self.now.depth (F.pre self.now.part) (F.post self.now.part) }
         ensures { GivesStmt (read_rule table (read_named table) (g.while_statement in_function in_loop) (suc self.now.depth) (ahead tokens.old)) result (ahead tokens.new) }
     {
