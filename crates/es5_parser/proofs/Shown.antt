@@ -1,10 +1,10 @@
 -- What stands behind a value, as the parser holds it.
-use Rattle.std.proofs.Common.{◌≡◌, ℕ, List, [], ◌∷◌, ◌++◌, map, refl, ap, ◌∙◌}
+use Rattle.std.proofs.Common.{◌≡◌, List, [], ◌∷◌, ◌++◌, map, refl, ap, ◌∙◌}
 use Rattle.es5_tree.specs.declared.token.EsToken.{EsToken}
 use Rattle.es5_tree.specs.declared.tree.EsExpr.{EsExpr}
 use Rattle.es5_tree.specs.declared.tree.EsKind.TheVariants as kind
 use Rattle.es5_tree.specs.declared.tree.EsStmt.{EsStmt}
-use Rattle.es5_tree.specs.Grammar.Nodes.{Node, statement, expression, expr_of, stmt_of, exprs, stmts, access}
+use Rattle.es5_tree.specs.Grammar.Nodes.{statement, expression, expr_of, stmt_of, exprs, stmts, access}
 
 pub exprs_back : (es : List EsExpr) → exprs (map expression es) ≡ es
 unfolding expr_of

@@ -1,5 +1,5 @@
 -- Where a loop over the parts behind a value ends.
-use Rattle.std.proofs.Common.{arith, ◌≡◌, ℕ, suc, Bool, true, false, ◌&&◌, List, [], Result, Ok, Err, refl, ap, ◌∙◌, sym}
+use Rattle.std.proofs.Common.{arith, ◌≡◌, ℕ, suc, Bool, true, false, ◌&&◌, List, [], Result, Ok, Err, refl, ap, ◌∙◌}
 use Rattle.std.specs.Prelude.{if◌then◌else◌, nat_le, max}
 use Rattle.grammar.specs.FormReaders.{next_in, and_then, read_many, read_many_from, read_more_suffixes}
 use Rattle.grammar.proofs.Loops.{read_many_from_is}

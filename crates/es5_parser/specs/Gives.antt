@@ -1,5 +1,5 @@
 -- What the parser's functions read of the tokens ahead.
-use Rattle.std.specs.Prelude.{◌≡◌, ℕ, Bool, true, false, ◌||◌, nat_eq, List, [], ◌∷◌, map, Result, Ok, Err}
+use Rattle.std.specs.Prelude.{◌≡◌, ℕ, Bool, false, ◌||◌, nat_eq, List, [], ◌∷◌, map, Result, Ok, Err}
 use denote.Ref.{Bor}
 use Rattle.es5_tree.specs.declared.terminal.Terminal.{Terminal}
 use Rattle.es5_tree.specs.declared.token.EsToken.{EsToken}

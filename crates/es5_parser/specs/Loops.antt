@@ -1,5 +1,5 @@
 -- What stands behind an operand, as the parser's loops read it.
-use Rattle.std.specs.Prelude.{ℕ, Bool, ◌&&◌, Option, List, length, Result, Ok, nat_le}
+use Rattle.std.specs.Prelude.{ℕ, Bool, ◌&&◌, Option, List, Result, nat_le}
 use Rattle.grammar.specs.Rules.{deep, leaf, tree, pair, marked, choice, view, named}
 use Rattle.grammar.specs.CommonRules.{behind}
 use Rattle.grammar.specs.FormReaders.{read_many_from, read_more_suffixes, read_one_suffix}
@@ -86,3 +86,6 @@ branches_fit b x = nat_le (deep EsToken depth branches x) b
 -- a statement that is no jump
 abbrev pub plain_statement : Bool → Bool → R (marked tree)
 plain_statement f l = choice (block_statement f l) (choice variable_statement (choice empty_statement (choice (if_statement f l) (choice (while_statement f l) (choice throw_statement (choice (try_statement f l) expression_statement))))))
+
+abbrev pub statement_or_jump : Bool → Bool → R (marked tree)
+statement_or_jump f l = or_jump l (plain_statement f l)

@@ -13,7 +13,7 @@ ghost use Rattle.es5_parser.specs.Named.{Nests, GivesAccess, GivesExpr, GivesExp
 
 use crate::fail::Fail;
 use crate::making::{accessed, fits};
-use crate::names::{Access, Operand, Part, Parser, Reading};
+use crate::names::{Access, Operand, Parser, Part, Reading};
 use crate::tokens::Tokens;
 use es5_tree::{EsExpr, EsMark, Level, Terminal};
 use sqlite_items::Items;

@@ -10,7 +10,7 @@ ghost use Rattle.es5_parser.specs.Named.{Nests, GivesChoices, GivesExpr, GivesOp
 
 use crate::fail::Fail;
 use crate::making::{assigned, conditional, fits, is_target};
-use crate::names::{Choices, Operand, Part, Parser, Reading};
+use crate::names::{Choices, Operand, Parser, Part, Reading};
 use crate::tokens::Tokens;
 use es5_tree::{EsExpr, EsMark, Level, Terminal};
 use std::alloc::Global;

@@ -14,7 +14,7 @@ ghost use Rattle.es5_parser.specs.Named.{Nests, GivesCaught, GivesHandlers, Give
 
 use crate::fail::Fail;
 use crate::making::tried;
-use crate::names::{Caught, Handlers, Part, Parser, Reading, Statement};
+use crate::names::{Caught, Handlers, Parser, Part, Reading, Statement};
 use crate::tokens::Tokens;
 use es5_tree::{EsMark, EsStmt, EsStmts, Keyword, Terminal};
 use std::alloc::Global;

@@ -14,8 +14,8 @@ mod parse;
 mod primary;
 mod statements;
 mod terminal;
-mod tokens;
 #[cfg(test)]
 mod tests;
+mod tokens;
 
 pub use parse::{es_parse, read_script};

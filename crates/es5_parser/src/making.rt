@@ -11,7 +11,8 @@ use crate::names::{Access, Branch, Caught, Choices, Handlers, Operand, Statement
 use crate::operators::Logical;
 use crate::terminal::terminal_of_word;
 use es5_tree::{
-    Catch, EsExpr, EsKind, EsMark, EsStmt, EsStmts, EsToken, EsTokenKind, Keyword, Operator, Terminal, expr_depth, is_word, stmt_depth,
+    Catch, EsExpr, EsKind, EsMark, EsStmt, EsStmts, EsToken, EsTokenKind, Keyword, Operator,
+    Terminal, expr_depth, is_word, stmt_depth,
 };
 use opal_base::{NoMemory, Pos, Units};
 use sqlite_items::Boxed;

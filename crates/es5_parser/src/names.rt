@@ -102,11 +102,21 @@ impl<F: Fn(Global, &mut Tokens<'_>, Part, u32) -> Result<Reading, Fail>> Parser<
     }
 
     /// A statement, under a node.
-    pub fn stmt(&self, tokens: &mut Tokens<'_>, in_function: bool, in_loop: bool) -> Result<Statement, Fail>
+    pub fn stmt(
+        &self,
+        tokens: &mut Tokens<'_>,
+        in_function: bool,
+        in_loop: bool,
+    ) -> Result<Statement, Fail>
         requires below { Nests self.now.depth (F.pre self.now.part) (F.post self.now.part) }
         ensures { GivesStmt (read_named table self.now.depth (name.statement in_function in_loop) (ahead tokens.old)) result (ahead tokens.new) }
     {
-        match (self.part)(self.alloc, tokens, Part::Stmt(in_function, in_loop), self.depth) {
+        match (self.part)(
+            self.alloc,
+            tokens,
+            Part::Stmt(in_function, in_loop),
+            self.depth,
+        ) {
             Ok(Reading::Stmt(stmt)) => Ok(stmt),
             Ok(_) => Err(Fail::Refused),
             Err(fail) => Err(fail),

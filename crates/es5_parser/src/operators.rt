@@ -12,7 +12,7 @@ ghost use Rattle.es5_parser.specs.Named.{Nests, GivesExpr, GivesOperand, shown_o
 
 use crate::fail::Fail;
 use crate::making::{binary, fits, joined};
-use crate::names::{Operand, Part, Parser, Reading};
+use crate::names::{Operand, Parser, Part, Reading};
 use crate::tokens::Tokens;
 use es5_tree::{EsExpr, EsMark, Level, Terminal};
 use std::alloc::Global;

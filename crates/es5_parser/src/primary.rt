@@ -9,7 +9,7 @@ ghost use Rattle.es5_parser.specs.Named.{Nests, GivesOperand};
 
 use crate::fail::Fail;
 use crate::making::{expr, is_member, negated, token_kind};
-use crate::names::{Operand, Part, Parser, Reading};
+use crate::names::{Operand, Parser, Part, Reading};
 use crate::tokens::Tokens;
 use es5_tree::{EsKind, EsMark, Keyword, Level, Terminal};
 use std::alloc::Global;

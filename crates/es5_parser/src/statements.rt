@@ -9,7 +9,7 @@ ghost use Rattle.es5_parser.specs.Named.{Nests, GivesExpr, GivesStmt};
 
 use crate::fail::Fail;
 use crate::making::name_of;
-use crate::names::{Part, Parser, Reading, Statement};
+use crate::names::{Parser, Part, Reading, Statement};
 use crate::tokens::Tokens;
 use es5_tree::{EsExpr, EsMark, EsStmt, Keyword, Level, Terminal};
 use sqlite_items::Boxed;
@@ -134,7 +134,12 @@ impl<F: Fn(Global, &mut Tokens<'_>, Part, u32) -> Result<Reading, Fail>> Parser<
     }
 
     #[tactic(auto, unfolding(es5_tree::specs::Grammar::Table::table, es5_tree::specs::Grammar::Statements::while_statement, es5_tree::specs::Grammar::Nodes::expr_of, es5_tree::specs::Grammar::Nodes::stmt_of))]
-    pub fn while_statement(&self, tokens: &mut Tokens<'_>, in_function: bool, in_loop: bool) -> Result<Statement, Fail>
+    pub fn while_statement(
+        &self,
+        tokens: &mut Tokens<'_>,
+        in_function: bool,
+        in_loop: bool,
+    ) -> Result<Statement, Fail>
         requires below { Nests self.now.depth (F.pre self.now.part) (F.post self.now.part) }
         ensures { GivesStmt (read_rule table (read_named table) (g.while_statement in_function in_loop) (suc self.now.depth) (ahead tokens.old)) result (ahead tokens.new) }
     {

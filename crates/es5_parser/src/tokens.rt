@@ -2,12 +2,15 @@
 
 ghost use Rattle.std.specs.Prelude.{◌≡◌, [], ◌∷◌, length, not, ◌||◌};
 ghost use Rattle.grammar.specs.FormReaders.{next_in, read_token};
-ghost use Rattle.grammar.specs.Spelling.{token_in};
+ghost use Rattle.grammar.specs.Spelling.{token_in, token_such};
+ghost use Rattle.es5_tree.specs.Reading.{is_directive};
+ghost use Rattle.es5_tree.specs.declared.terminal.Terminal.TheVariants as terminal;
 ghost use Rattle.es5_tree.specs.declared.token.EsMark.TheVariants as mark;
 ghost use Rattle.es5_tree.specs.Grammar.Terminals.{code_of, op, token_code};
 ghost use Rattle.es5_tree.specs.Grammar.Table.{begins_expression, begins_statement};
 ghost use Rattle.es5_parser.specs.Gives.{ahead, GivesToken, one_of, codes};
 
+use crate::cursor::is_directive;
 use crate::fail::Fail;
 use crate::terminal::{code_of, terminal_of};
 use es5_tree::{EsMark, EsToken, Keyword, Terminal};
@@ -150,6 +153,21 @@ impl<'a> Tokens<'a> {
         ensures { GivesToken (read_token (token_in token_code (one_of (codes (terminal ∷ [])))) (ahead self.old)) result (ahead self.new) }
     {
         self.take_one_of(&[terminal])
+    }
+
+    /// Takes the directive.
+    pub fn take_directive(&mut self) -> Result<&'a EsToken, Fail>
+        ensures { GivesToken (read_token (token_such token_code (one_of (codes (terminal.Str ∷ []))) is_directive) (ahead self.old)) result (ahead self.new) }
+    {
+        let rest: &'a [EsToken] = self.rest;
+        let Some(next) = rest.first() else {
+            return Err(Fail::Refused);
+        };
+        if !is_one_of(terminal_of(&next.kind), &[Terminal::Str]) || !is_directive(next) {
+            return Err(Fail::Refused);
+        }
+        self.rest = &rest[1..];
+        Ok(next)
     }
 
     /// Takes one of these terminals.

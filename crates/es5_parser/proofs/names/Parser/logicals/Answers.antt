@@ -1,9 +1,8 @@
-use Rattle.std.proofs.Common.{rules, arith, sym, ◌∙◌, ◌-◌}
+use Rattle.std.proofs.Common.{rules, arith, sym, ◌∙◌}
 use Rattle.std.proofs.lemmas.Grind.{common_steps}
 use Rattle.grammar.specs.Checks.{first}
 use Rattle.grammar.specs.Readers.{read_named, read_rule}
 use Rattle.grammar.proofs.Turns.{one_more}
-use Rattle.es5_tree.specs.Grammar.Nodes.{binary}
 use Rattle.es5_tree.specs.Grammar.Table.{table}
 use Rattle.es5_parser.specs.Gives.{ahead}
 use Rattle.es5_parser.specs.Loops.{fits, logicals, logical_part, joined}
