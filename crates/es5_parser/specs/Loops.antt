@@ -1,8 +1,9 @@
 -- What stands behind an operand, as the parser's loops read it.
-use Rattle.std.specs.Prelude.{ℕ, Bool, ◌&&◌, Option, List, Result, nat_le}
+use Rattle.std.specs.Prelude.{ℕ, Bool, ◌&&◌, Option, List, Result, nat_le, zero, suc, [], ◌∷◌, ◌++◌, if◌then◌else◌, Ok}
 use Rattle.grammar.specs.Rules.{deep, leaf, tree, pair, marked, choice, view, named}
 use Rattle.grammar.specs.CommonRules.{behind}
-use Rattle.grammar.specs.FormReaders.{read_many_from, read_more_suffixes, read_one_suffix}
+use Rattle.grammar.specs.FormReaders.{read_many_from, read_more_suffixes, read_one_suffix, next_in, and_then, read_token}
+use Rattle.grammar.specs.Spelling.{token_in}
 use Rattle.grammar.specs.Readers.{read_named, read_rule}
 use Rattle.grammar.specs.Checks.{first}
 use Rattle.es5_tree.specs.declared.token.EsToken.{EsToken}
@@ -10,10 +11,10 @@ use Rattle.es5_tree.specs.Grammar.Nodes.{Node, depth, accessed, binary, conjunct
 use Rattle.es5_tree.specs.declared.terminal.Level.TheVariants as level
 use Rattle.es5_tree.specs.declared.token.EsMark.TheVariants as mark
 use Rattle.es5_tree.specs.Grammar.Names.{R, expr_sort, expr, statement}
-use Rattle.es5_tree.specs.Grammar.Terminals.{op}
+use Rattle.es5_tree.specs.Grammar.Terminals.{op, token_code}
 use Rattle.es5_tree.specs.Grammar.Expressions.{product_part, sum_part, relation_part, equality_part, and_part, or_part, choices, assigned_part, access_part}
 use Rattle.es5_tree.specs.Grammar.Statements.{branches, or_jump, variable_statement, empty_statement, expression_statement, throw_statement, block_statement, if_statement, while_statement, try_statement}
-use Rattle.es5_tree.specs.Grammar.Table.{table}
+use Rattle.es5_tree.specs.Grammar.Table.{table, begins_expression}
 use Rattle.es5_parser.specs.declared.operators.Binary.{Binary}
 use Rattle.es5_parser.specs.declared.operators.Binary.TheVariants as of_two
 use Rattle.es5_parser.specs.declared.operators.Logical.{Logical}
@@ -89,3 +90,15 @@ plain_statement f l = choice (block_statement f l) (choice variable_statement (c
 
 abbrev pub statement_or_jump : Bool → Bool → R (marked tree)
 statement_or_jump f l = or_jump l (plain_statement f l)
+
+-- ---- items of an array, behind those found
+
+unfoldable pub items_from : ℕ → ℕ → List Node → List EsToken → Outcome (List Node)
+items_from zero b found ts = Ok (found, ts)
+items_from (suc n) b found ts =
+    if next_in (λ t. begins_expression (token_code t)) ts
+    then and_then (read_named table b (expr level.Assignment) ts) (λ e rest.
+        if next_in (λ t. op mark.Comma (token_code t)) rest
+        then and_then (read_token (token_in token_code (op mark.Comma)) rest) (λ c after. items_from n b (found ++ e ∷ []) after)
+        else Ok (found ++ e ∷ [], rest))
+    else Ok (found, ts)

@@ -2,6 +2,7 @@
 #![tactic(auto)]
 
 mod access;
+mod array;
 mod assignment;
 mod blocks;
 mod cursor;
