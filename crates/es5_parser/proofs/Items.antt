@@ -1,7 +1,6 @@
 -- The items of an array, read by a loop.
-use Rattle.std.proofs.Common.{◌≡◌, ℕ, zero, suc, ◌≤◌, ◌<◌, Bool, true, false, List, [], ◌∷◌, ◌++◌, length, Result, Ok, Err, refl, sym, ap, ◌∙◌, subst, arith, append_assoc, append-nil, true≢false}
+use Rattle.std.proofs.Common.{◌≡◌, ℕ, zero, suc, ◌≤◌, Bool, true, false, List, [], ◌∷◌, ◌++◌, length, Ok, Err, refl, sym, ap, ◌∙◌, arith, append_assoc, append-nil}
 use Rattle.std.specs.Prelude.{if◌then◌else◌, nat_le, Some, None}
-use Rattle.grammar.specs.Checks.{first}
 use Rattle.grammar.specs.FormReaders.{next_in, and_then, read_token, read_one_token}
 use Rattle.grammar.specs.Readers.{read_named, read_rule}
 use Rattle.grammar.specs.Rules.{named}
@@ -18,6 +17,7 @@ use Rattle.es5_tree.specs.Grammar.Terminals.{op, token_code}
 use Rattle.es5_tree.specs.Grammar.Table.{table, begins_expression}
 use Rattle.es5_tree.proofs.Grammar.TableMeets.{predictive}
 use Rattle.es5_parser.specs.Loops.{Outcome, items_from}
+use Rattle.es5_parser.proofs.Stopping.{keep}
 
 -- no nodes are within any levels
 none_within : (b : ℕ) → nat_le 0 b ≡ true
@@ -95,3 +95,7 @@ module _ (b : ℕ) where
       by h true (Ok y) e =
           behind_item n found y.0 y.1 (h (found ++ y.0 ∷ [])) (omega (arith, lt, left_of table predictive (named (expr level.Assignment)) tt b ts y.0 y.1 e))
           ∙ ap (behind found y.0) (sym (more_is y.1))
+
+-- all of them
+pub items_all : (b : ℕ) (ts : List EsToken) → items_from (length ts) b [] ts ≡ read_rule table (read_named table) item_list b ts
+items_all b ts = items_are b (length ts) [] ts (omega arith) ∙ keep (read_rule table (read_named table) item_list b ts)

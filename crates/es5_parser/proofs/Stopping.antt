@@ -20,7 +20,7 @@ module _ {T A S : Type 0} (first : T → Bool) (fits : A → Bool) (f : A → S 
   pub none_fits : fits l ≡ false → read_more_suffixes first fits f q (suc n) l ts ≡ Ok (l, ts)
   none_fits e = ap (λ c. if c then goes_on else Ok (l, ts)) (both_false (next_in first ts) (fits l) e)
 
-keep : {T A : Type 0} (o : Result (A × List T) (List T)) → and_then o (λ ys r. Ok (ys, r)) ≡ o
+pub keep : {T A : Type 0} (o : Result (A × List T) (List T)) → and_then o (λ ys r. Ok (ys, r)) ≡ o
 keep (Ok y) = refl
 keep (Err y) = refl
 

@@ -98,7 +98,7 @@ items_from zero b found ts = Ok (found, ts)
 items_from (suc n) b found ts =
     if next_in (λ t. begins_expression (token_code t)) ts
     then and_then (read_named table b (expr level.Assignment) ts) (λ e rest.
-        if next_in (λ t. op mark.Comma (token_code t)) rest
-        then and_then (read_token (token_in token_code (op mark.Comma)) rest) (λ c after. items_from n b (found ++ e ∷ []) after)
-        else Ok (found ++ e ∷ [], rest))
+    if next_in (λ t. op mark.Comma (token_code t)) rest
+    then and_then (read_token (token_in token_code (op mark.Comma)) rest) (λ c after. items_from n b (found ++ e ∷ []) after)
+    else Ok (found ++ e ∷ [], rest))
     else Ok (found, ts)
