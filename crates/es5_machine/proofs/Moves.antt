@@ -5,8 +5,8 @@ use Rattle.opal_base.specs.declared.place.Pos.{Pos}
 use Rattle.opal_base.specs.Outside.{appended, TookFront}
 use Rattle.opal_base.specs.Shown.{HostCall, Wrote, output_of}
 use Rattle.opal_base.specs.Text.{utf8_of}
-use Rattle.es5_tree.specs.declared.tree.EsStmt.{EsStmt}
-use Rattle.es5_tree.specs.declared.tree.EsExpr.{EsExpr}
+use Rattle.es5_tree.specs.declared.small.EsStmt.{EsStmt}
+use Rattle.es5_tree.specs.declared.small.EsExpr.{EsExpr}
 use Rattle.es5_tree.specs.State.{Text, Obj, World}
 use Rattle.es5_tree.specs.Task.{Task, Outcome, Gives, Throwing, Left, Starved, run}
 use Rattle.es5_tree.specs.Eval.{Completion}

@@ -4,12 +4,12 @@ use Rattle.std.specs.Str.{bytes_eq}
 use Rattle.std.proofs.lemmas.List.{map-append}
 use lib.Pointwise.{pointwise}
 use denote.Hole.Carrier
-use Rattle.es5_tree.specs.declared.tree.EsKind.TheBlock
-use Rattle.es5_tree.specs.declared.tree.EsKind.{EsKind-F, out-EsKind, out-roll-EsKind}
+use Rattle.es5_tree.specs.declared.small.EsKind.TheBlock
+use Rattle.es5_tree.specs.declared.small.EsKind.{EsKind-F, out-EsKind, out-roll-EsKind}
 use Rattle.std.specs.Prelude.{codes}
 use Rattle.opal_base.specs.declared.place.Pos.{Pos}
-use Rattle.es5_tree.specs.declared.tree.EsExpr.{EsExpr}
-use Rattle.es5_tree.specs.declared.tree.EsKind.TheVariants as kind
+use Rattle.es5_tree.specs.declared.small.EsExpr.{EsExpr}
+use Rattle.es5_tree.specs.declared.small.EsKind.TheVariants as kind
 use Rattle.es5_tree.specs.State.{Text, Val, Undefined, Obj, World, first}
 use Rattle.es5_tree.specs.Task.{Done, Gives, run, ◌>>=◌}
 use Rattle.es5_tree.specs.Eval.{or_undefined, member, text_property, layer, found, invoke, no_function, each, eval_node, eval_to}

@@ -2,9 +2,9 @@
 use Rattle.std.proofs.Common.{◌≡◌, ℕ, suc, ◌≤◌, List, [], ◌∷◌, ◌++◌, Option, Some, None, reverse, refl, sym, ap, ◌∙◌, arith}
 use Rattle.std.proofs.lemmas.List.{reverse-append}
 use Rattle.opal_base.specs.Shown.{Wrote}
-use Rattle.es5_tree.specs.declared.tree.EsStmt.{EsStmt}
-use Rattle.es5_tree.specs.declared.tree.EsStmt.TheVariants as stmt
-use Rattle.es5_tree.specs.declared.tree.EsExpr.{EsExpr}
+use Rattle.es5_tree.specs.declared.small.EsStmt.{EsStmt}
+use Rattle.es5_tree.specs.declared.small.EsStmt.TheVariants as stmt
+use Rattle.es5_tree.specs.declared.small.EsExpr.{EsExpr}
 use Rattle.es5_tree.specs.State.{Text, Val, Obj, World, State, add_cell}
 use Rattle.es5_tree.specs.Task.{Task, Done, Throwing, Left, run, ◌>>=◌}
 use Rattle.es5_tree.specs.Eval.{Completion, Normal, layer, each, all, go_on, eval_node, exec_node, eval_to, exec_to}

@@ -1,7 +1,7 @@
 -- Tasks one after another, and what a callee gives.
 use Rattle.std.proofs.Common.{◌≡◌, ℕ, zero, suc, ◌≤◌, refl, sym, ap, ◌∙◌, arith}
-use Rattle.es5_tree.specs.declared.tree.EsExpr.{EsExpr}
-use Rattle.es5_tree.specs.declared.tree.EsKind.{EsKind-F}
+use Rattle.es5_tree.specs.declared.small.EsExpr.{EsExpr}
+use Rattle.es5_tree.specs.declared.small.EsKind.{EsKind-F}
 use Rattle.es5_tree.specs.State.{Text, Val, Undefined, Null, Truth, Num, Str, Obj, State}
 use Rattle.es5_tree.specs.Task.{Task, Done, Throws, Leaves, Deep, Tick, Var, Prop, CellOf, New, Print, Test, run, ◌>>=◌}
 use Rattle.es5_tree.specs.Eval.{Slot, Named, this_of, Layer, layer, based, member, read_place, callee_at, eval_node, eval_to}

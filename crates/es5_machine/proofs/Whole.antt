@@ -3,9 +3,9 @@ use Rattle.std.proofs.Common.{◌≡◌, inl, inr, ℕ, suc, ◌+◌, ◌≤◌,
 use Rattle.std.proofs.lemmas.List.{reverse-reverse}
 use Rattle.opal_base.specs.Outside.{appended}
 use Rattle.opal_base.specs.Shown.{HostCall, Ended, Going, output_of}
-use Rattle.es5_tree.specs.declared.tree.Script.{Script}
-use Rattle.es5_tree.specs.declared.tree.EsStmt.{EsStmt}
-use Rattle.es5_tree.specs.declared.tree.EsExpr.{EsExpr}
+use Rattle.es5_tree.specs.declared.small.Script.{Script}
+use Rattle.es5_tree.specs.declared.small.EsStmt.{EsStmt}
+use Rattle.es5_tree.specs.declared.small.EsExpr.{EsExpr}
 use Rattle.es5_tree.specs.State.{Text, Obj, World, first_state, find_own, cell_at, add_cell}
 use Rattle.es5_tree.specs.Task.{Outcome, Gives, Throwing, Left, Starved, run, ◌>>=◌}
 use Rattle.es5_tree.specs.Eval.{Completion, Normal, all, exec_to, eval_to}

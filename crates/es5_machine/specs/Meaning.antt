@@ -1,8 +1,8 @@
 -- What values, actions and pending work mean: what the definition does with the rest.
 use Rattle.std.specs.Prelude.{◌≡◌, ℕ, List, [], ◌∷◌, ◌++◌, map, pos, Option, Some, None, reverse, codes}
 use Rattle.opal_base.specs.declared.place.Pos.{Pos}
-use Rattle.es5_tree.specs.declared.tree.EsStmt.{EsStmt}
-use Rattle.es5_tree.specs.declared.tree.EsExpr.{EsExpr}
+use Rattle.es5_tree.specs.declared.small.EsStmt.{EsStmt}
+use Rattle.es5_tree.specs.declared.small.EsExpr.{EsExpr}
 use Rattle.es5_tree.specs.State.{Text, Val, Undefined, Num, Str, Obj, World, State, first_state, get, var_of, global_record}
 use Rattle.es5_tree.specs.Task.{Task, Done, Leaves, Print, run, ◌>>=◌, raise}
 use Rattle.es5_tree.specs.Eval.{Completion, layer, or_undefined, member, each, invoke, eval_node, all, eval_to, exec_to}

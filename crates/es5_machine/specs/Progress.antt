@@ -2,9 +2,9 @@
 use Rattle.std.specs.Prelude.{◌≡◌, ℕ, suc, ◌+◌, ◌<◌, List, [], ◌∷◌, ◌++◌, Option, Some, None, Result, Ok, Err}
 use Rattle.opal_base.specs.Outside.{appended}
 use Rattle.opal_base.specs.Shown.{HostCall, output_of}
-use Rattle.es5_tree.specs.declared.tree.Script.{Script}
-use Rattle.es5_tree.specs.declared.tree.EsStmt.{EsStmt}
-use Rattle.es5_tree.specs.declared.tree.EsExpr.{EsExpr}
+use Rattle.es5_tree.specs.declared.small.Script.{Script}
+use Rattle.es5_tree.specs.declared.small.EsStmt.{EsStmt}
+use Rattle.es5_tree.specs.declared.small.EsExpr.{EsExpr}
 use Rattle.es5_tree.specs.State.{Text, Str, Obj, Plain, World, State, object_prototype, add_cell, add_frame, first_state}
 use Rattle.es5_tree.specs.Task.{Outcome, Throwing, Left, run, counted}
 use Rattle.es5_tree.specs.Eval.{Completion, all, exec_to}

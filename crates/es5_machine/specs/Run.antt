@@ -2,7 +2,7 @@
 use Rattle.std.specs.Prelude.{◌≡◌, ◌⊎◌, ℕ, suc, ◌+◌, ◌<◌, ◌≤◌, List, ◌++◌, Option, Some, None}
 use Rattle.opal_base.specs.Outside.{Rose, appended}
 use Rattle.opal_base.specs.Shown.{Shown, Ended, Going}
-use Rattle.es5_tree.specs.declared.tree.Script.{Script}
+use Rattle.es5_tree.specs.declared.small.Script.{Script}
 use Rattle.es5_tree.specs.State.{Text}
 use Rattle.es5_tree.specs.Task.{OutKind, Number, Division, Conversion, Host}
 use Rattle.es5_tree.specs.Run.{EsEnd, Finished, Uncaught, Outside, es_run, cells_at}

@@ -1,6 +1,6 @@
 ghost use Rattle.std.specs.Prelude.{◌≡◌, IfOk, reverse};
 
-use es5_tree::{EsExpr, EsKind, EsStmt};
+use es5_tree::small::{EsExpr, EsKind, EsStmt};
 use opal_base::NoMemory;
 use sqlite_items::{Boxed, Items};
 use std::alloc::Global;

@@ -5,7 +5,7 @@ use crate::copy::copy_reversed;
 use crate::end::RunEnd;
 use crate::ending::{again, keep};
 use crate::pending::Pending;
-use es5_tree::Script;
+use es5_tree::small::Script;
 use opal_base::{NoMemory, Sink, Units};
 use sqlite_items::Items;
 use std::alloc::Global;
@@ -28,7 +28,7 @@ pub struct Machine {
 impl Model for Machine {
     ghost use Rattle.es5_machine.specs.Run.{Ran};
     ghost use Rattle.es5_machine.specs.Progress.{HoldsUnless};
-    ghost use Rattle.es5_tree.specs.contracts.tree.EsKind as form;
+    ghost use Rattle.es5_tree.specs.contracts.small.EsKind as form;
     ghost use Rattle.std.specs.Coded.{codes};
 
     ghost Value = { Ran };

@@ -11,7 +11,7 @@ use crate::ending::uncaught;
 use crate::plan::{after, begin};
 use crate::value::Value;
 use crate::work::{Action, Frame};
-use es5_tree::{EsExpr, EsStmt};
+use es5_tree::small::{EsExpr, EsStmt};
 use opal_base::{Sink, Units, units_to_utf8, write_all};
 use sqlite_items::Items;
 use std::alloc::Global;

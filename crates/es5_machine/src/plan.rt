@@ -6,7 +6,7 @@ ghost use Rattle.es5_machine.specs.Meaning.{Opens, GoesTo, Gathers, Invokes, Rea
 use crate::end::OutKind;
 use crate::value::{HOST_WRITE, TEXT_PROTOTYPE, Value, property, variable};
 use crate::work::{Action, Fault, Frame};
-use es5_tree::{EsExpr, EsKind};
+use es5_tree::small::{EsExpr, EsKind};
 use opal_base::{NoMemory, Pos, Units};
 use sqlite_items::Items;
 use std::alloc::Global;

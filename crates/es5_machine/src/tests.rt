@@ -1,5 +1,5 @@
 use super::*;
-use es5_tree::{EsExpr, EsKind, EsStmt, Script};
+use es5_tree::small::{EsExpr, EsKind, EsStmt, Script};
 use opal_base::{MemSink, NoMemory, Pos, Units, units_to_utf8, utf8_to_units};
 use sqlite_items::{Boxed, Items};
 use std::alloc::Global;

@@ -2,7 +2,7 @@
 
 use crate::end::OutKind;
 use crate::value::Value;
-use es5_tree::EsExpr;
+use es5_tree::small::EsExpr;
 use opal_base::{Pos, Units};
 use sqlite_items::Items;
 

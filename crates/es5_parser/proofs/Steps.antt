@@ -8,8 +8,8 @@ use Rattle.es5_tree.specs.declared.token.EsTokenKind.TheVariants.{Word, Num, Str
 use Rattle.es5_tree.specs.declared.token.EsMark.TheVariants.{Dot, OpenParen, CloseParen, Semicolon}
 use Rattle.es5_tree.specs.declared.token.EsStop.{EsStop}
 use Rattle.es5_tree.specs.declared.token.EsStop.TheVariants.{NoMemory, NotScript}
-use Rattle.es5_tree.specs.declared.tree.Script.{Script}
-use Rattle.es5_tree.specs.declared.tree.EsStmt.{EsStmt}
+use Rattle.es5_tree.specs.declared.small.Script.{Script}
+use Rattle.es5_tree.specs.declared.small.EsStmt.{EsStmt}
 use Rattle.es5_tree.specs.Lexed.{StopsAt}
 use Rattle.es5_tree.specs.Spells.{token_kind, IsEnded, write_kinds, body_kinds, body_of, Spells, NoFrontPos}
 use Rattle.es5_tree.specs.Reading.{kind_is, is_directive, State, Directive, Break, Ready, Member, Name, Open, Text, Close, Last, Over, goes, text_goes, step, Stops}

@@ -4,7 +4,7 @@ use Rattle.opal_base.specs.declared.place.Pos.{Pos}
 use Rattle.es5_tree.specs.declared.token.EsToken.{EsToken}
 use Rattle.es5_tree.specs.declared.token.EsTokenKind.{EsTokenKind}
 use Rattle.es5_tree.specs.declared.token.EsTokenKind.TheVariants.{Str, End}
-use Rattle.es5_tree.specs.declared.tree.EsStmt.{EsStmt}
+use Rattle.es5_tree.specs.declared.small.EsStmt.{EsStmt}
 use Rattle.es5_tree.specs.Tree.{write_at}
 use Rattle.es5_tree.specs.Spells.{token_kind, write_kinds, pos_of, IsEnded}
 use Rattle.es5_tree.specs.Reading.{kind_is, State, Stops}

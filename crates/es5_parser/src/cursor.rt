@@ -35,7 +35,7 @@ fn is_mark(token: &EsToken, mark: EsMark) -> bool
 }
 
 /// Whether the token is the directive, without escapes (ECMA-262 5.1, 14.1).
-fn is_directive(token: &EsToken) -> bool
+pub fn is_directive(token: &EsToken) -> bool
     ensures { result ≡ spec.is_directive token.now }
 {
     match &token.kind {

@@ -1,7 +1,7 @@
 //! Statements and scripts (ECMA-262 5.1, 12 and 14).
 
 ghost use Rattle.std.specs.Prelude.{◌≡◌, ◌<◌, ◌^◌, [], ◌∷◌, length, false, None, IfOk, IfErr};
-ghost use Rattle.es5_tree.specs.declared.tree.EsKind.TheVariants as form;
+ghost use Rattle.es5_tree.specs.declared.small.EsKind.TheVariants as form;
 ghost use Rattle.es5_tree.specs.Lexed.{StopsAt};
 ghost use Rattle.es5_tree.specs.Tree.{expr_at, write_at};
 ghost use Rattle.es5_tree.specs.Spells.{IsEnded, IsNotScript, NoFrontPos, Reads, Spells};
@@ -10,7 +10,8 @@ ghost use Rattle.es5_parser.specs.Ahead.{Statement, StopsFrom, is_end};
 
 use crate::cursor::Cursor;
 use es5_lexer::es_lex;
-use es5_tree::{EsExpr, EsKind, EsMark, EsStmt, EsStop, EsTokens, Script, word_units};
+use es5_tree::small::{EsExpr, EsKind, EsStmt, Script};
+use es5_tree::{EsMark, EsStop, EsTokens, word_units};
 use opal_base::{NoMemory, Pos, Units};
 use sqlite_items::{Boxed, Items};
 use std::alloc::Global;

@@ -1,6 +1,6 @@
 -- With more units no fewer cells are made.
-use Rattle.std.proofs.Common.{◌≡◌, ℕ, zero, suc, ◌+◌, ◌≤◌, refl, ap, sym, ◌∙◌, subst, arith}
-use Rattle.es5_tree.specs.declared.tree.Script.{Script}
+use Rattle.std.proofs.Common.{◌≡◌, ℕ, zero, suc, ◌+◌, ◌≤◌, refl, ap, ◌∙◌, subst, arith}
+use Rattle.es5_tree.specs.declared.small.Script.{Script}
 use Rattle.es5_tree.specs.State.{Text, State, first_state}
 use Rattle.es5_tree.specs.Task.{Task, Done, Throws, Leaves, Deep, Tick, Var, Prop, CellOf, New, Print, Test, Outcome, Gives, Throwing, Left, Starved, run}
 use Rattle.es5_tree.specs.Eval.{Completion, all, exec_to}

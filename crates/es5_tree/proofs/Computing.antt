@@ -1,7 +1,7 @@
 -- What a proof unfolds that computes a run.
 use denote.Hole.Carrier
-use Rattle.es5_tree.specs.declared.tree.EsKind.TheBlock
-use Rattle.es5_tree.specs.declared.tree.EsKind.{out-EsKind}
+use Rattle.es5_tree.specs.declared.small.EsKind.TheBlock
+use Rattle.es5_tree.specs.declared.small.EsKind.{out-EsKind}
 use Rattle.es5_tree.specs.State.{find_own, cell_at, add_cell, get_by, get, frame_at, add_frame, var_of}
 use Rattle.es5_tree.specs.Task.{run, ◌>>=◌}
 use Rattle.es5_tree.specs.Eval

@@ -20,7 +20,7 @@ use Rattle.es5_tree.specs.Lexed.{LexesTo, tokens_from, token_at}
 use Rattle.es5_tree.specs.Laws.{Lexed, LexedOnce, TokensOrNone}
 use Rattle.es5_tree.proofs.OneCut.{class_in, stands_class, stands_one, no_digits, none_some, same_cons, stands_some, reaches_one, end_stuck}
 use Rattle.es5_tree.proofs.Signs.{class_at, sign_fits}
-use Rattle.es5_tree.proofs.Grammar.{tokens_one}
+use Rattle.es5_tree.proofs.OneScript.{tokens_one}
 
 -- ---- a character has a byte
 

@@ -2,7 +2,7 @@
 use Rattle.std.proofs.Common.{◌≡◌, ℕ, ◌+◌, ◌-◌, ◌≤◌, List, [], ◌++◌, refl, sym, ap, ◌∙◌, subst, arith, inl, inr, ⊎_elim}
 use Rattle.std.proofs.lemmas.Bool.{cases_lt}
 use Rattle.opal_base.specs.Shown.{Ended, Shows, output_of}
-use Rattle.es5_tree.specs.declared.tree.Script.{Script}
+use Rattle.es5_tree.specs.declared.small.Script.{Script}
 use Rattle.es5_tree.specs.State.{Text, first_state}
 use Rattle.es5_tree.specs.Task.{Outcome, Gives, Throwing, Left, Starved, run}
 use Rattle.es5_tree.specs.Eval.{Completion, all, exec_to}

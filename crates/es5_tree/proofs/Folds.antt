@@ -5,13 +5,13 @@ use denote.Hole.Carrier
 use lib.Utf8.{encode}
 use Rattle.opal_base.specs.Text.{utf8_of}
 use Rattle.opal_base.proofs.Texts.{text_printed_back_is}
-use Rattle.es5_tree.specs.declared.tree.Script.{Script}
-use Rattle.es5_tree.specs.declared.tree.EsStmt.{EsStmt}
-use Rattle.es5_tree.specs.declared.tree.EsStmt.TheVariants as stmt
-use Rattle.es5_tree.specs.declared.tree.EsExpr.{EsExpr, EsExpr-F}
-use Rattle.es5_tree.specs.declared.tree.EsKind.{EsKind, EsKind-F, roll-EsKind}
-use Rattle.es5_tree.specs.declared.tree.EsKind.TheFolds.{fold-EsExpr, fold-EsKind, fold-roll-EsExpr, fold-roll-EsKind}
-use Rattle.es5_tree.specs.declared.tree.EsKind.TheVariants as kind
+use Rattle.es5_tree.specs.declared.small.Script.{Script}
+use Rattle.es5_tree.specs.declared.small.EsStmt.{EsStmt}
+use Rattle.es5_tree.specs.declared.small.EsStmt.TheVariants as stmt
+use Rattle.es5_tree.specs.declared.small.EsExpr.{EsExpr, EsExpr-F}
+use Rattle.es5_tree.specs.declared.small.EsKind.{EsKind, EsKind-F, roll-EsKind}
+use Rattle.es5_tree.specs.declared.small.EsKind.TheFolds.{fold-EsExpr, fold-EsKind, fold-roll-EsExpr, fold-roll-EsKind}
+use Rattle.es5_tree.specs.declared.small.EsKind.TheVariants as kind
 use Rattle.es5_tree.specs.Tree.{start, expr, write, writes, bare_expr, bare_stmt, bare}
 use Rattle.es5_tree.specs.Text.{escaped, literal, form_text, expr_text, stmt_text, text_of}
 

@@ -5,6 +5,7 @@ pub mod Computing
 pub mod Statements
 pub mod Signs
 pub mod OneCut
+pub mod OneScript
 pub mod Grammar
 pub mod Cutting
 pub mod Fronts

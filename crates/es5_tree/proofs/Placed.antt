@@ -4,13 +4,13 @@ use Rattle.opal_base.specs.declared.place.Pos.{Pos}
 use Rattle.es5_tree.specs.declared.token.EsToken.{EsToken}
 use Rattle.es5_tree.specs.declared.token.EsTokenKind.{EsTokenKind}
 use Rattle.es5_tree.specs.declared.token.EsTokenKind.TheVariants as token
-use Rattle.es5_tree.specs.declared.tree.Script.{Script}
-use Rattle.es5_tree.specs.declared.tree.EsStmt.{EsStmt}
-use Rattle.es5_tree.specs.declared.tree.EsStmt.TheVariants as stmt
-use Rattle.es5_tree.specs.declared.tree.EsExpr.{EsExpr, EsExpr-F}
-use Rattle.es5_tree.specs.declared.tree.EsKind.{EsKind, EsKind-F, roll-EsKind}
-use Rattle.es5_tree.specs.declared.tree.EsKind.TheFolds.{fold-EsKind, fold-roll-EsExpr, fold-roll-EsKind}
-use Rattle.es5_tree.specs.declared.tree.EsKind.TheVariants as kind
+use Rattle.es5_tree.specs.declared.small.Script.{Script}
+use Rattle.es5_tree.specs.declared.small.EsStmt.{EsStmt}
+use Rattle.es5_tree.specs.declared.small.EsStmt.TheVariants as stmt
+use Rattle.es5_tree.specs.declared.small.EsExpr.{EsExpr, EsExpr-F}
+use Rattle.es5_tree.specs.declared.small.EsKind.{EsKind, EsKind-F, roll-EsKind}
+use Rattle.es5_tree.specs.declared.small.EsKind.TheFolds.{fold-EsKind, fold-roll-EsExpr, fold-roll-EsKind}
+use Rattle.es5_tree.specs.declared.small.EsKind.TheVariants as kind
 use Rattle.es5_tree.specs.Tree.{expr, expr_at, write, write_at, bare_expr, bare_stmt, bare}
 use Rattle.es5_tree.specs.Tokens.{Form, Space, Comment, Word, Num, Str, Mark, kind_of, Piece}
 use Rattle.es5_tree.specs.Lexed.{LexesTo, token_at, token_if, tokens_from}

@@ -1,10 +1,10 @@
 -- What bytes spell with its places.
-use Rattle.std.proofs.Common.{◌≡◌, List, ℕ, sym, ap, ap₂, ◌∙◌, subst, drop}
+use Rattle.std.proofs.Common.{◌≡◌, List, ℕ, sym, ap, ◌∙◌, subst, drop}
 use Rattle.es5_tree.specs.declared.token.EsToken.{EsToken}
-use Rattle.es5_tree.specs.declared.tree.Script.{Script}
-use Rattle.es5_tree.specs.Spells.{Spells, Writes, body_of, Reads}
+use Rattle.es5_tree.specs.declared.small.Script.{Script}
+use Rattle.es5_tree.specs.Spells.{Spells, body_of}
 use Rattle.es5_tree.specs.Laws.{OneRead, ReadSpells}
-use Rattle.es5_tree.proofs.Grammar.{tokens_one, writes_one}
+use Rattle.es5_tree.proofs.OneScript.{tokens_one, writes_one}
 use Rattle.es5_tree.proofs.Placed.{spelled}
 
 -- tokens spell one script at most

@@ -2,12 +2,12 @@
 use Rattle.std.proofs.Common.{◌≡◌, ℕ, zero, suc, List, [], ◌∷◌, map, Option, None, Some, refl, sym, ap, ◌∙◌, subst}
 use Rattle.opal_base.specs.declared.place.Pos.{Pos}
 use Rattle.opal_base.specs.Shown.{output_of}
-use Rattle.es5_tree.specs.declared.tree.EsStmt.{EsStmt}
-use Rattle.es5_tree.specs.declared.tree.EsStmt.TheVariants as stmt
-use Rattle.es5_tree.specs.declared.tree.EsExpr.{EsExpr}
-use Rattle.es5_tree.specs.declared.tree.EsKind.{EsKind, EsKind-F, out-EsKind, roll-EsKind}
-use Rattle.es5_tree.specs.declared.tree.EsKind.TheFolds.{fold-EsKind, fold-roll-EsExpr, fold-roll-EsKind, map-EsKind}
-use Rattle.es5_tree.specs.declared.tree.EsKind.TheViews.{out-roll-EsKind, roll-out-EsKind}
+use Rattle.es5_tree.specs.declared.small.EsStmt.{EsStmt}
+use Rattle.es5_tree.specs.declared.small.EsStmt.TheVariants as stmt
+use Rattle.es5_tree.specs.declared.small.EsExpr.{EsExpr}
+use Rattle.es5_tree.specs.declared.small.EsKind.{EsKind, EsKind-F, out-EsKind, roll-EsKind}
+use Rattle.es5_tree.specs.declared.small.EsKind.TheFolds.{fold-EsKind, fold-roll-EsExpr, fold-roll-EsKind, map-EsKind}
+use Rattle.es5_tree.specs.declared.small.EsKind.TheViews.{out-roll-EsKind, roll-out-EsKind}
 use Rattle.es5_tree.specs.Tree.{start, expr, bare_expr, bare_stmt}
 use Rattle.es5_tree.specs.State.{Val, Obj, Str, HostFn, Write, Kind, Plain, Intrinsic, Cell, State, first_state}
 use Rattle.es5_tree.specs.Task.{Task, Done, Leaves, Tick, Outcome, Gives, Throwing, Left, Starved, run, ◌>>=◌}

@@ -1,10 +1,10 @@
 -- What the statements and expressions of a script do, over the tree, with at most d nested nodes.
 use Rattle.std.specs.Prelude.{ℕ, zero, suc, Bool, true, false, List, [], ◌∷◌, ◌++◌, length, pos, Option, Some, None, bytes_eq, codes}
 use Rattle.opal_base.specs.declared.place.Pos.{Pos}
-use Rattle.es5_tree.specs.declared.tree.EsStmt.{EsStmt}
-use Rattle.es5_tree.specs.declared.tree.EsStmt.TheVariants as stmt
-use Rattle.es5_tree.specs.declared.tree.EsExpr.{EsExpr}
-use Rattle.es5_tree.specs.declared.tree.EsKind.{EsKind, EsKind-F, out-EsKind}
+use Rattle.es5_tree.specs.declared.small.EsStmt.{EsStmt}
+use Rattle.es5_tree.specs.declared.small.EsStmt.TheVariants as stmt
+use Rattle.es5_tree.specs.declared.small.EsExpr.{EsExpr}
+use Rattle.es5_tree.specs.declared.small.EsKind.{EsKind, EsKind-F, out-EsKind}
 use Rattle.es5_tree.specs.State.{Text, Val, Undefined, Null, Truth, Num, Str, Obj, HostFn, Write, Kind, Plain, Intrinsic, Cell, text_prototype}
 use Rattle.es5_tree.specs.Task.{Host, Task, Done, Leaves, Deep, Tick, Var, Prop, CellOf, Print, Test, ◌>>=◌, raise}
 

@@ -3,9 +3,9 @@ use Rattle.std.specs.Prelude.{◌≡◌, ◌⊎◌, ℕ, ◌+◌, ◌<◌, ◌�
 use Rattle.std.specs.List.{AllByRecursion}
 use Rattle.opal_base.specs.declared.place.Pos.{Pos}
 use Rattle.opal_base.specs.Shown.{Shown, Ended, Going, Shows, ShowsInTurn}
-use Rattle.es5_tree.specs.declared.tree.Script.{Script}
-use Rattle.es5_tree.specs.declared.tree.EsStmt.TheVariants as stmt
-use Rattle.es5_tree.specs.declared.tree.EsKind.TheVariants as kind
+use Rattle.es5_tree.specs.declared.small.Script.{Script}
+use Rattle.es5_tree.specs.declared.small.EsStmt.TheVariants as stmt
+use Rattle.es5_tree.specs.declared.small.EsKind.TheVariants as kind
 use Rattle.es5_tree.specs.State.{Text}
 use Rattle.es5_tree.specs.Run.{EsEnd, Finished, Uncaught, Outside, es_run, cells_at}
 use Rattle.es5_tree.specs.Tree.{bare, expr, writes}

@@ -1,5 +1,6 @@
 pub mod Tree
 pub mod Text
+pub mod Depth
 pub mod Characters
 pub mod Literals
 pub mod Numerals
@@ -10,6 +11,7 @@ pub mod Lexed
 pub mod Written
 pub mod Spells
 pub mod Reading
+pub mod Grammar
 pub mod State
 pub mod Task
 pub mod Eval

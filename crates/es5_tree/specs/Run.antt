@@ -2,7 +2,7 @@
 use Rattle.std.specs.Prelude.{ℕ, [], ◌∷◌, Option, Some, None, codes}
 use Rattle.opal_base.specs.declared.place.Pos.{Pos}
 use Rattle.opal_base.specs.Shown.{Shown, Ended, Going, output_of}
-use Rattle.es5_tree.specs.declared.tree.Script.{Script}
+use Rattle.es5_tree.specs.declared.small.Script.{Script}
 use Rattle.es5_tree.specs.State.{Text, Val, Undefined, Str, Obj, Cell, World, State, find_own, cell_at, first_state, global_record}
 use Rattle.es5_tree.specs.Task.{OutKind, Outcome, Gives, Throwing, Left, Starved, run}
 use Rattle.es5_tree.specs.Eval.{Completion, Scope, all, exec_to}

@@ -6,8 +6,8 @@ use Rattle.es5_tree.specs.declared.token.EsToken.{EsToken}
 use Rattle.es5_tree.specs.declared.token.EsTokenKind.{EsTokenKind}
 use Rattle.es5_tree.specs.declared.token.EsTokenKind.TheVariants.{Word, Str, Mark, End}
 use Rattle.es5_tree.specs.declared.token.EsMark.TheVariants.{Dot, OpenParen, CloseParen, Semicolon}
-use Rattle.es5_tree.specs.declared.tree.Script.{Script}
-use Rattle.es5_tree.specs.declared.tree.EsStmt.{EsStmt}
+use Rattle.es5_tree.specs.declared.small.Script.{Script}
+use Rattle.es5_tree.specs.declared.small.EsStmt.{EsStmt}
 use Rattle.es5_tree.specs.Tree.{start, write_at, bare, writes}
 use Rattle.es5_tree.specs.Lexed.{LexesTo, NoTokenPlace}
 

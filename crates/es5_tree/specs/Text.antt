@@ -3,12 +3,12 @@ use Rattle.std.specs.Prelude.{ℕ, ◌/◌, ◌%◌, ◌==◌, ◌||◌, nat_lt,
 use Rattle.std.specs.Char.{digit_char}
 use Rattle.std.specs.List.{flat_map}
 use Rattle.opal_base.specs.Text.{utf8_of}
-use Rattle.es5_tree.specs.declared.tree.Script.{Script}
-use Rattle.es5_tree.specs.declared.tree.EsStmt.{EsStmt}
-use Rattle.es5_tree.specs.declared.tree.EsStmt.TheVariants as stmt
-use Rattle.es5_tree.specs.declared.tree.EsExpr.{EsExpr}
-use Rattle.es5_tree.specs.declared.tree.EsKind.{EsKind-F}
-use Rattle.es5_tree.specs.declared.tree.EsKind.TheFolds.{fold-EsExpr}
+use Rattle.es5_tree.specs.declared.small.Script.{Script}
+use Rattle.es5_tree.specs.declared.small.EsStmt.{EsStmt}
+use Rattle.es5_tree.specs.declared.small.EsStmt.TheVariants as stmt
+use Rattle.es5_tree.specs.declared.small.EsExpr.{EsExpr}
+use Rattle.es5_tree.specs.declared.small.EsKind.{EsKind-F}
+use Rattle.es5_tree.specs.declared.small.EsKind.TheFolds.{fold-EsExpr}
 
 -- a unit as four lower-case hexadecimal digits
 abbrev pub hex_digits : ℕ → List ℕ

@@ -1,13 +1,13 @@
 -- Trees of scripts: short builders, and a tree without what no text shows.
 use Rattle.std.specs.Prelude.{ℕ, List, [], ◌∷◌, map, None, codes}
 use Rattle.opal_base.specs.declared.place.Pos.{Pos}
-use Rattle.es5_tree.specs.declared.tree.Script.{Script}
-use Rattle.es5_tree.specs.declared.tree.EsStmt.{EsStmt}
-use Rattle.es5_tree.specs.declared.tree.EsStmt.TheVariants as stmt
-use Rattle.es5_tree.specs.declared.tree.EsExpr.{EsExpr}
-use Rattle.es5_tree.specs.declared.tree.EsKind.{EsKind, roll-EsKind}
-use Rattle.es5_tree.specs.declared.tree.EsKind.TheFolds.{fold-EsExpr}
-use Rattle.es5_tree.specs.declared.tree.EsKind.TheVariants as kind
+use Rattle.es5_tree.specs.declared.small.Script.{Script}
+use Rattle.es5_tree.specs.declared.small.EsStmt.{EsStmt}
+use Rattle.es5_tree.specs.declared.small.EsStmt.TheVariants as stmt
+use Rattle.es5_tree.specs.declared.small.EsExpr.{EsExpr}
+use Rattle.es5_tree.specs.declared.small.EsKind.{EsKind, roll-EsKind}
+use Rattle.es5_tree.specs.declared.small.EsKind.TheFolds.{fold-EsExpr}
+use Rattle.es5_tree.specs.declared.small.EsKind.TheVariants as kind
 
 abbrev pub start : Pos
 start = record { line = 0; col = 0 }

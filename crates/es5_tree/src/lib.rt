@@ -1,16 +1,23 @@
 //! Scripts of the ECMAScript profile: their tree, and what it means.
 #![tactic(auto)]
 
+mod grammar_laws;
 mod laws;
 mod lexing;
 mod object_laws;
 mod reserved;
 mod safe_int;
 mod sign;
+pub mod small;
+mod terminal;
 mod token;
 mod tree;
+mod tree_depth;
 mod word;
 
+pub use grammar_laws::{
+    beginnings_are_fronts, bytes_spell_one, one_token_tells, script_or_place, tokens_spell_one,
+};
 pub use laws::{
     cells_grow, decimal_numerals, longest_sign, one_list_of_tokens, one_place, one_read,
     one_script, one_stop, runs, sites_dont_matter, small_scripts, text_spells, tokens_in_order,
@@ -24,6 +31,8 @@ pub use object_laws::{
 pub use reserved::is_reserved;
 pub use safe_int::SafeInt;
 pub use sign::{SIGNS, Sign};
+pub use terminal::{KEYWORDS, Keyword, Level, Terminal};
 pub use token::{EsMark, EsStop, EsToken, EsTokenKind, EsTokens};
-pub use tree::{EsExpr, EsKind, EsStmt, EsStmts, Script};
+pub use tree::{Catch, EsExpr, EsKind, EsStmt, EsStmts, Operator, Script};
+pub use tree_depth::{es_depth, expr_depth, stmt_depth};
 pub use word::{is_word, word_units};

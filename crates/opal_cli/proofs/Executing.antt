@@ -3,7 +3,7 @@ use Rattle.std.proofs.Common.{◌≡◌, ◌⊎◌, ℕ, List, [], Err, refl, sy
 use mathlib.Core.Logic.{inl, inr}
 use Rattle.opal_base.specs.Outside.{FileMap, appended}
 use Rattle.opal_base.proofs.Took.{appended_none}
-use Rattle.es5_tree.specs.declared.tree.Script.{Script}
+use Rattle.es5_tree.specs.declared.small.Script.{Script}
 use Rattle.es5_tree.specs.State.{Text}
 use Rattle.ruby_meaning.specs.declared.tree.Bundle.{Bundle}
 use Rattle.ruby_meaning.specs.Load.{Loads, Whole, Missing, Refused}

@@ -9,7 +9,7 @@ use Rattle.ruby_meaning.specs.declared.tree.Bundle.{Bundle}
 use Rattle.ruby_meaning.specs.declared.construct.Construct.{Construct}
 use Rattle.ruby_meaning.specs.Laws.{OneLoad}
 use Rattle.ruby_meaning.specs.Load.{Loaded, Loads, Whole, Missing, Refused}
-use Rattle.es5_tree.specs.declared.tree.Script.{Script}
+use Rattle.es5_tree.specs.declared.small.Script.{Script}
 use Rattle.es5_tree.specs.State.{Text}
 use Rattle.es5_tree.specs.Run.{EsEnd, Finished, Uncaught, Outside, es_run, cells_at}
 use Rattle.es5_tree.specs.Laws.{CellsGrow, OnePlace, NeverBoth, OneRead, ReadSpells}

@@ -4,8 +4,8 @@ use Rattle.std.proofs.lemmas.List.{append-nil}
 use Rattle.opal_base.specs.Outside.{appended}
 use Rattle.opal_base.specs.Shown.{Ended, Going}
 use Rattle.opal_base.proofs.Took.{appended_none}
-use Rattle.es5_tree.specs.declared.tree.Script.{Script}
-use Rattle.es5_tree.specs.declared.tree.EsStmt.{EsStmt}
+use Rattle.es5_tree.specs.declared.small.Script.{Script}
+use Rattle.es5_tree.specs.declared.small.EsStmt.{EsStmt}
 use Rattle.es5_tree.specs.State.{Text, first_state}
 use Rattle.es5_tree.specs.Task as task
 use Rattle.es5_tree.specs.Task.{run}

@@ -18,7 +18,7 @@ use Rattle.ruby_meaning.specs.Run as ruby
 use Rattle.ruby_meaning.specs.Lines.{lines_of, puts_line, puts_node, puts_nodes, node, line_end, program_of}
 use Rattle.ruby_meaning.specs.Load.{IsSound}
 use Rattle.ruby_meaning.specs.Laws.{PutsInTurn}
-use Rattle.es5_tree.specs.declared.tree.Script.{Script}
+use Rattle.es5_tree.specs.declared.small.Script.{Script}
 use Rattle.es5_tree.specs.Tree.{writes}
 use Rattle.es5_tree.specs.Task.{OutKind, Number}
 use Rattle.es5_tree.specs.Text.{text_of}

@@ -4,7 +4,7 @@ use Rattle.opal_base.specs.Shown.{Shown, Ended, Going, Shows}
 use Rattle.ruby_meaning.specs.declared.tree.Bundle.{Bundle}
 use Rattle.ruby_meaning.specs.Run.{RubyEnd, ruby_run}
 use Rattle.ruby_meaning.specs.Run as ruby
-use Rattle.es5_tree.specs.declared.tree.Script.{Script}
+use Rattle.es5_tree.specs.declared.small.Script.{Script}
 use Rattle.es5_tree.specs.Task.{OutKind, Number}
 use Rattle.es5_tree.specs.Run.{EsEnd, es_run}
 use Rattle.es5_tree.specs.Run as es

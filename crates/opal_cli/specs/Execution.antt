@@ -11,7 +11,7 @@ use Rattle.ruby_meaning.specs.declared.tree.Bundle.{Bundle}
 use Rattle.ruby_meaning.specs.Run as ruby
 use Rattle.ruby_meaning.specs.Run.{ruby_run}
 use Rattle.ruby_meaning.specs.Load.{Loads, Whole, Missing, Refused}
-use Rattle.es5_tree.specs.declared.tree.Script.{Script}
+use Rattle.es5_tree.specs.declared.small.Script.{Script}
 use Rattle.es5_tree.specs.Spells.{EsSpells, Reads, IsNotScript}
 use Rattle.es5_tree.specs.State.{Text}
 use Rattle.es5_tree.specs.Text.{text_of}

@@ -5,7 +5,7 @@ use Rattle.ruby_meaning.specs.declared.tree.Bundle.{Bundle}
 use Rattle.ruby_meaning.specs.declared.tree.Node.{Node}
 use Rattle.ruby_meaning.specs.declared.tree.Kind.{Kind, Kind-F, out-Kind}
 use Rattle.ruby_meaning.specs.Eval.{Layer, puts_text}
-use Rattle.es5_tree.specs.declared.tree.Script.{Script}
+use Rattle.es5_tree.specs.declared.small.Script.{Script}
 use Rattle.es5_tree.specs.Tree.{writes}
 
 abbrev pub layer : Node → Layer

@@ -3,7 +3,7 @@ ghost use Rattle.std.specs.Char.{digit_char};
 ghost use Rattle.opal_base.specs.Text.{utf8_of};
 ghost use Rattle.es5_tree.specs.Text.{text_of, stmt_text, expr_text, arguments, literal, escaped};
 
-use es5_tree::{EsExpr, EsKind, EsStmt, Script};
+use es5_tree::small::{EsExpr, EsKind, EsStmt, Script};
 use opal_base::{Bytes, NoMemory, Units, units_to_utf8};
 use std::alloc::Global;
 

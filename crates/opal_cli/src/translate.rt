@@ -7,11 +7,11 @@ ghost use Rattle.es5_tree.specs.Spells.{EsSpells};
 ghost use Rattle.es5_tree.specs.Text.{text_of};
 ghost use Rattle.opal_cli.specs.Agree.{Agree};
 ghost use Rattle.es5_tree.specs.Tree.{write, expr as bare};
-ghost use Rattle.es5_tree.specs.declared.tree.EsKind.TheVariants as kind;
+ghost use Rattle.es5_tree.specs.declared.small.EsKind.TheVariants as kind;
 ghost use Rattle.opal_cli.specs.Translation as spec;
 
 use crate::laws::agreement;
-use es5_tree::{EsExpr, EsKind, EsStmt, Script};
+use es5_tree::small::{EsExpr, EsKind, EsStmt, Script};
 use opal_base::{NoMemory, Pos, Units};
 use ruby_meaning::{Bundle, Kind, Node};
 use sqlite_items::{Boxed, Items};

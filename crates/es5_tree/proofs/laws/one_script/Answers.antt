@@ -1,4 +1,4 @@
-use Rattle.es5_tree.proofs.Grammar.{one_script_is}
+use Rattle.es5_tree.proofs.OneScript.{one_script_is}
 use Rattle.es5_tree.proofs.laws.one_script.Goals as goal
 
 pub returns : goal.returns

@@ -1,0 +1,8 @@
+use Rattle.std.proofs.Common.{◌≡◌, ◌-◌, length}
+use Rattle.es5_parser.specs.Gives.{ahead}
+use Rattle.es5_parser.specs.Loops.{binaries}
+use Rattle.es5_parser.specs.Named.{shown_operand}
+use Rattle.es5_parser.proofs.names.Parser.binaries.Given as goal
+
+abbrev pub invariant-loop-turn : goal.invariant-loop-turn
+invariant-loop-turn g l = binaries l.which (length (ahead l.fn.tokens)) l.self.depth (shown_operand l.fn.left) (ahead l.fn.tokens) ≡ binaries l.which (l._turn-end - l._turn) l.self.depth (shown_operand l.left) (ahead l.tokens)

@@ -1,0 +1,8 @@
+use Rattle.std.proofs.Common.{◌≡◌, ◌-◌, length, map}
+use Rattle.es5_tree.specs.Grammar.Nodes.{expression}
+use Rattle.es5_parser.specs.Gives.{ahead}
+use Rattle.es5_parser.specs.Loops.{items_from}
+use Rattle.es5_parser.proofs.names.Parser.items.Given as goal
+
+abbrev pub invariant-loop-turn : goal.invariant-loop-turn
+invariant-loop-turn g l = items_from (length (ahead l.fn.tokens)) l.self.depth (map expression l.fn.found) (ahead l.fn.tokens) ≡ items_from (l._turn-end - l._turn) l.self.depth (map expression l.found) (ahead l.tokens)
