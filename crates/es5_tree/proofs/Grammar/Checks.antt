@@ -4,9 +4,9 @@ use Rattle.std.specs.Prelude.{nat_eq}
 use Rattle.grammar.specs.Rules.{choice, El, named, deep_if}
 use Rattle.grammar.specs.Checks.{nullable, first, continues, GoesOn, Included, Checks}
 use Rattle.grammar.proofs.Depths.{deepest_flat}
-use Rattle.grammar.proofs.Classes.{clear_at}
+use Rattle.grammar.proofs.Classes.{clear_at, continues_of}
 use Rattle.grammar.proofs.CommonChecks.{separated_checks}
-use Rattle.grammar.proofs.Lists.{and_both, and_split, or_split}
+use Rattle.grammar.proofs.Lists.{and_both, and_split, or_left, or_right, or_split}
 use Rattle.es5_tree.specs.declared.terminal.Keyword.TheVariants as keyword
 use Rattle.es5_tree.specs.declared.terminal.Level.TheVariants as level
 use Rattle.es5_tree.specs.declared.token.EsMark.TheVariants as mark
@@ -14,10 +14,11 @@ use Rattle.es5_tree.specs.declared.token.EsToken.{EsToken}
 use Rattle.es5_tree.specs.declared.tree.EsKind.TheVariants as kind
 use Rattle.es5_tree.specs.Grammar.Terminals.{size, op, key}
 use Rattle.es5_tree.specs.Grammar.Nodes.{Node, depth, place, expr_of, stmt_of, exprs, stmts, expr_if, name_of, operator_of, binary, is_member, is_target, is_target_form, takes_else}
-use Rattle.es5_tree.specs.Grammar.Names.{expr}
+use Rattle.es5_tree.specs.Grammar.Names.{Name, script, statement, expr, items, pairs, params, sorts}
 use Rattle.es5_tree.specs.Grammar.Expressions.{simple, parenthesized, more_items, item_list, array, more_pairs, value_and_more, pair_list, object_literal, more_params, param_list, parameters, statement_list, block, function_expression, primary, member_part, index_part, arguments, call_part, access_part, call_level, deletion, operation, unary_level, product_part, product_level, sum_part, sum_level, relation_part, relation_level, equality_part, equality_level, and_part, and_level, or_part, or_level, choices, conditional_level, assigned_part, assignment_level, ends_where}
 use Rattle.es5_tree.specs.Grammar.Statements.{ended, variable_statement, empty_statement, expression_statement, condition, return_statement, throw_statement, break_statement, continue_statement, block_statement, first_branch, both_branches, if_statement, while_statement, catch_part, finally_part, handlers, try_statement, any_statement, whole_script, branches, or_jump}
-use Rattle.es5_tree.specs.Grammar.Table.{table, statement_goes_on}
+use Rattle.es5_tree.specs.Grammar.Table.{table, statement_goes_on, goes_on}
+use Rattle.es5_tree.specs.Grammar.Table.{continues as behind_name}
 use Rattle.es5_tree.proofs.Grammar.Depths.{expr_of_depth, stmt_of_depth, exprs_depth, stmts_depth, expr_if_depth, token_depth, object_pairs_depth, function_of_depth, access_depth, unary_depth, tried_depth, branched_depth, array_depth, delete_depth, binary_depth, and_depth, or_depth, cond_depth, assign_depth, expr_statement_depth, block_statement_depth, while_statement_depth, break_statement_depth, continue_statement_depth, throw_statement_depth, empty_statement_depth, var_statement_depth, return_statement_depth}
 
 flat_if : (o : Option EsToken) → deep_if (λ t. 0) o ≡ 0
@@ -166,10 +167,21 @@ c_conditional : Checks table conditional_level
 unfolding table simple parenthesized more_items item_list array more_pairs value_and_more pair_list object_literal more_params param_list parameters statement_list block function_expression primary member_part index_part arguments call_part access_part call_level deletion operation unary_level product_part product_level sum_part sum_level relation_part relation_level equality_part equality_level and_part and_level or_part or_level choices conditional_level assigned_part assignment_level ended variable_statement empty_statement expression_statement condition return_statement throw_statement break_statement continue_statement block_statement first_branch both_branches if_statement while_statement catch_part finally_part handlers try_statement any_statement whole_script
 c_conditional = (inl refl, refl, refl, λ l x k. omega (arith, cond_depth (expr_of l.1) (expr_of x.0) (expr_of x.1) (place l.0), expr_of_depth l.1, expr_of_depth x.0, expr_of_depth x.1), c_or, c_choices)
 
+pub bounded : (k : Name) (x : El EsToken Node (sorts k)) (t : ℕ) → goes_on k x t ≡ true → behind_name k t ≡ true
+bounded (statement f l) x t g = elim (or_split (key keyword.Finally t) (key keyword.Else t && nat_eq 1 x.1) g) [
+  | inl h ↦ or_right (key keyword.Else t) _ h
+  | inr h ↦ or_left (key keyword.Else t) _ ((and_split (key keyword.Else t) (nat_eq 1 x.1) h).0)
+]
+bounded script x t g = g
+bounded (expr l) x t g = g
+bounded items x t g = g
+bounded (pairs seen) x t g = g
+bounded (params seen) x t g = g
+
 -- no `=` goes on with what it may stand behind, since a conditional expression is no target
 target_alone : (l : EsToken × Node) (t : ℕ) → t < size → is_target l.1 ≡ true → GoesOn table conditional_level l t → op mark.Assign t ≡ true → ⊥
 unfolding table simple parenthesized more_items item_list array more_pairs value_and_more pair_list object_literal more_params param_list parameters statement_list block function_expression primary member_part index_part arguments call_part access_part call_level deletion operation unary_level product_part product_level sum_part sum_level relation_part relation_level equality_part equality_level and_part and_level or_part or_level choices conditional_level assigned_part assignment_level ended variable_statement empty_statement expression_statement condition return_statement throw_statement break_statement continue_statement block_statement first_branch both_branches if_statement while_statement catch_part finally_part handlers try_statement any_statement whole_script is_target expr_of
-target_alone l t less k (inl g) h = clear_at size (λ n. continues table or_level n && op mark.Assign n) t refl less (and_both _ _ g h)
+target_alone l t less k (inl g) h = clear_at size (λ n. continues table or_level n && op mark.Assign n) t refl less (and_both _ _ (continues_of table bounded or_level l t g) h)
 target_alone l t less k (inr (inl (m, x, e, true_, g))) h =
     true≢false (sym (subst (λ z. is_target z.1 ≡ true) e k) ∙ ap is_target_form (kind.outs-Cond (expr_of m.1) (expr_of x.0) (expr_of x.1)))
 target_alone l t less k (inr (inr (true_, g))) h = clear_at size (λ n. op mark.Question n && op mark.Assign n) t refl less (and_both _ _ g h)

@@ -17,7 +17,7 @@ use Rattle.es5_tree.specs.Grammar.Statements.{ended, variable_statement, empty_s
 use Rattle.es5_tree.specs.Grammar.Table.{table, production, begins, is_nullable, statement_goes_on, goes_on}
 use Rattle.es5_tree.specs.Grammar.Table.{continues as behind_name}
 use Rattle.es5_tree.proofs.Grammar.Codes.{code_within}
-use Rattle.es5_tree.proofs.Grammar.Checks.{c_more_items, c_pairs, c_params, c_call, c_unary, c_product, c_sum, c_relation, c_equality, c_and, c_assignment, c_statement, c_script, first_goes_on}
+use Rattle.es5_tree.proofs.Grammar.Checks.{c_more_items, c_pairs, c_params, c_call, c_unary, c_product, c_sum, c_relation, c_equality, c_and, c_assignment, c_statement, c_script, first_goes_on, bounded}
 
 c_all : (k : Name) → Checks table (production k)
 unfolding table simple parenthesized more_items item_list array more_pairs value_and_more pair_list object_literal more_params param_list parameters statement_list block function_expression primary member_part index_part arguments call_part access_part call_level deletion operation unary_level product_part product_level sum_part sum_level relation_part relation_level equality_part equality_level and_part and_level or_part or_level choices conditional_level assigned_part assignment_level ended variable_statement empty_statement expression_statement condition return_statement throw_statement break_statement continue_statement block_statement first_branch both_branches if_statement while_statement catch_part finally_part handlers try_statement any_statement whole_script
@@ -99,17 +99,6 @@ all_continue (expr level.Call) = refl
 all_continue items = refl
 all_continue (pairs seen) = refl
 all_continue (params seen) = refl
-
-bounded : (k : Name) (x : El EsToken Node (sorts k)) (t : ℕ) → goes_on k x t ≡ true → behind_name k t ≡ true
-bounded (statement f l) x t g = elim (or_split (key keyword.Finally t) (key keyword.Else t && nat_eq 1 x.1) g) [
-  | inl h ↦ or_right (key keyword.Else t) _ h
-  | inr h ↦ or_left (key keyword.Else t) _ ((and_split (key keyword.Else t) (nat_eq 1 x.1) h).0)
-]
-bounded script x t g = g
-bounded (expr l) x t g = g
-bounded items x t g = g
-bounded (pairs seen) x t g = g
-bounded (params seen) x t g = g
 
 -- ---- what goes on behind a statement
 
