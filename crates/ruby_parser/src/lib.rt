@@ -1,6 +1,28 @@
 //! From Ruby's text to its tree.
 #![tactic(auto)]
 
+mod args;
+mod arguments;
+mod assignment;
+mod begins;
+mod calls;
+mod class;
+mod command;
+mod cursor;
+mod definitions;
+mod fail;
+mod hash;
 mod lines;
+mod lists;
+mod making;
+mod names;
+mod nodes;
+mod operators;
+mod parameters;
+mod post;
+mod primary;
+mod passed;
+mod value;
+mod values;
 
 pub use lines::parse_lines;

@@ -1,0 +1,10 @@
+use Rattle.std.proofs.Common.{◌≡◌, ◌-◌, length}
+use Rattle.ruby_parser.specs.Ahead.{ahead, codes, one_of}
+use Rattle.ruby_parser.specs.Operators.{operators_from}
+use Rattle.ruby_parser.specs.Shown.{shown_value, written_code}
+use Rattle.ruby_parser.proofs.names.Parser.operators.Given as goal
+
+abbrev pub invariant-loop-turn : goal.invariant-loop-turn
+invariant-loop-turn g l =
+    operators_from (one_of (codes l.signs)) l.fn.operand l.fn.joint l.self.takes_do l.self.in_rescue l.self.depth (length (ahead l.fn.cursor)) (shown_value l.fn.first) (ahead l.fn.cursor)
+    ≡ operators_from (one_of (codes l.signs)) l.fn.operand l.fn.joint l.self.takes_do l.self.in_rescue l.self.depth (l._turn-end - l._turn) (l.left, written_code l.written) (ahead l.cursor)

@@ -1,0 +1,17 @@
+pub mod Ahead
+pub mod Shown
+pub mod Named
+pub mod Operators
+pub mod Assignments
+pub mod Lists
+pub mod Arguments
+pub mod ArgumentSteps
+pub mod Nodes
+pub mod Parameters
+pub mod Definitions
+pub mod Commands
+pub mod Literals
+pub mod CallParts
+pub mod PassedArguments
+pub mod CallValues
+pub mod PartsBehind

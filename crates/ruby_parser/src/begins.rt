@@ -1,0 +1,73 @@
+//! What begins a value, an argument and a statement.
+
+ghost use Rattle.std.specs.Prelude.{◌≡◌};
+ghost use Rattle.grammar.specs.FormReaders.{next_in};
+ghost use Rattle.ruby_meaning.specs.Grammar.Table as g;
+ghost use Rattle.ruby_parser.specs.Ahead.{ahead, class_code};
+
+use crate::cursor::Cursor;
+use ruby_meaning::{Mark, Sign, Word};
+
+const VALUES: [Sign; 42] = [
+    Sign::Name,
+    Sign::Const,
+    Sign::Ivar,
+    Sign::Gvar,
+    Sign::Int,
+    Sign::Text,
+    Sign::TextBegin,
+    Sign::Keyword(Word::Nil),
+    Sign::Keyword(Word::True),
+    Sign::Keyword(Word::False),
+    Sign::Keyword(Word::Self_),
+    Sign::Keyword(Word::Retry),
+    Sign::Keyword(Word::Yield),
+    Sign::Keyword(Word::Super),
+    Sign::Op(Mark::WordsRound),
+    Sign::Op(Mark::WordsSquare),
+    Sign::Op(Mark::SymbolsRound),
+    Sign::Op(Mark::SymbolsSquare),
+    Sign::Marked(Mark::WordsRound),
+    Sign::Marked(Mark::WordsSquare),
+    Sign::Marked(Mark::SymbolsRound),
+    Sign::Marked(Mark::SymbolsSquare),
+    Sign::Op(Mark::ColonColon),
+    Sign::Marked(Mark::ColonColon),
+    Sign::Op(Mark::ParenOpen),
+    Sign::Marked(Mark::ParenOpen),
+    Sign::Op(Mark::BracketOpen),
+    Sign::Marked(Mark::BracketOpen),
+    Sign::Op(Mark::BraceOpen),
+    Sign::Op(Mark::Bang),
+    Sign::Op(Mark::Minus),
+    Sign::Marked(Mark::Minus),
+    Sign::Op(Mark::Arrow),
+    Sign::Keyword(Word::Case),
+    Sign::Keyword(Word::Class),
+    Sign::Keyword(Word::Module),
+    Sign::Keyword(Word::Def),
+    Sign::Keyword(Word::Begin),
+    Sign::Keyword(Word::If),
+    Sign::Keyword(Word::Unless),
+    Sign::Keyword(Word::While),
+    Sign::Keyword(Word::Until),
+];
+
+pub const STARS: [Sign; 2] = [Sign::Op(Mark::Star), Sign::Marked(Mark::Star)];
+
+pub fn begins_value(cursor: &Cursor<'_>) -> bool
+    ensures { result ≡ next_in (λ t. g.begins_value (class_code t)) (ahead cursor.now) }
+{
+    cursor.sees_one_of(&VALUES)
+}
+
+#[tactic(auto, using(crate::proofs::Next::next_or))]
+pub fn begins_argument(cursor: &Cursor<'_>) -> bool
+    ensures { result ≡ next_in (λ t. g.begins_argument (class_code t)) (ahead cursor.now) }
+{
+    begins_value(cursor)
+        || cursor.sees_one_of(&STARS)
+        || cursor.sees(Sign::Label)
+        || cursor.sees(Sign::Op(Mark::Ampersand))
+        || cursor.sees(Sign::Marked(Mark::Ampersand))
+}
