@@ -11,8 +11,8 @@ use Rattle.es5_tree.specs.Grammar.Nodes.{Node, statement, expression, by_name, b
 use Rattle.es5_tree.specs.Grammar.Names as name
 use Rattle.es5_tree.specs.Grammar.Table.{table}
 use Rattle.es5_parser.specs.declared.tokens.Tokens.{Tokens}
-use Rattle.es5_parser.specs.declared.fail.Fail.{Fail}
-use Rattle.es5_parser.specs.declared.fail.Fail.TheVariants.{NoMemory, Refused}
+use Rattle.descent.specs.declared.fail.Fail.{Fail}
+use Rattle.descent.specs.declared.fail.Fail.TheVariants.{NoMemory, Refused}
 use Rattle.es5_parser.specs.declared.names.Part.{Part}
 use Rattle.es5_parser.specs.declared.names.Part.TheVariants as part
 use Rattle.es5_parser.specs.declared.names.Statement.{Statement}
@@ -25,7 +25,8 @@ use Rattle.es5_parser.specs.declared.names.Choices.{Choices}
 use Rattle.es5_parser.specs.declared.names.Handlers.{Handlers}
 use Rattle.es5_parser.specs.declared.names.Reading.{Reading}
 use Rattle.es5_parser.specs.declared.names.Reading.TheVariants as reading
-use Rattle.es5_parser.specs.Gives.{ahead, Gives}
+use Rattle.descent.specs.Gives.{Gives}
+use Rattle.es5_parser.specs.Gives.{ahead}
 
 abbrev pub else_code : Bool → ℕ
 else_code true = 1

@@ -11,7 +11,7 @@ ghost use Rattle.es5_parser.specs.Gives.{ahead};
 ghost use Rattle.es5_parser.specs.Loops.{accesses, next_argument, more_arguments};
 ghost use Rattle.es5_parser.specs.Named.{Nests, GivesAccess, GivesExpr, GivesExprs, GivesOperand, shown_operand};
 
-use crate::fail::Fail;
+use descent::Fail;
 use crate::making::{accessed, fits};
 use crate::names::{Access, Operand, Parser, Part, Reading};
 use crate::tokens::Tokens;

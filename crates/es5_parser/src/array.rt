@@ -9,7 +9,7 @@ ghost use Rattle.es5_parser.specs.Gives.{ahead};
 ghost use Rattle.es5_parser.specs.Loops.{items_from};
 ghost use Rattle.es5_parser.specs.Named.{Nests, GivesExprs, GivesOperand};
 
-use crate::fail::Fail;
+use descent::Fail;
 use crate::making::expr;
 use crate::names::{Operand, Parser, Part, Reading};
 use crate::tokens::Tokens;

@@ -8,7 +8,7 @@ ghost use Rattle.es5_parser.specs.Gives.{ahead};
 ghost use Rattle.es5_parser.specs.Loops.{conditional_behind, assigned_behind};
 ghost use Rattle.es5_parser.specs.Named.{Nests, GivesChoices, GivesExpr, GivesOperand, shown_operand};
 
-use crate::fail::Fail;
+use descent::Fail;
 use crate::making::{assigned, conditional, fits, is_target};
 use crate::names::{Choices, Operand, Parser, Part, Reading};
 use crate::tokens::Tokens;

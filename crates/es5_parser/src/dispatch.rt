@@ -8,7 +8,7 @@ ghost use Rattle.es5_parser.specs.Gives.{ahead};
 ghost use Rattle.es5_parser.specs.Loops.{plain_statement, statement_or_jump};
 ghost use Rattle.es5_parser.specs.Named.{Nests, GivesBranch, GivesStmt, GivesStmts};
 
-use crate::fail::Fail;
+use descent::Fail;
 use crate::making::{branch_fits, long_if, short_if};
 use crate::names::{Branch, Parser, Part, Reading, Statement};
 use crate::tokens::Tokens;

@@ -7,7 +7,6 @@ mod assignment;
 mod blocks;
 mod cursor;
 mod dispatch;
-mod fail;
 mod making;
 mod names;
 mod operators;

@@ -8,7 +8,7 @@ ghost use Rattle.grammar.specs.Readers.{read_named};
 ghost use Rattle.es5_parser.specs.Gives.{ahead};
 ghost use Rattle.es5_parser.specs.Named.{Nests, GivesExpr, GivesStmt};
 
-use crate::fail::Fail;
+use descent::Fail;
 use crate::tokens::Tokens;
 use es5_tree::{EsExpr, EsStmt, EsStmts, EsToken, Level};
 use sqlite_items::Items;

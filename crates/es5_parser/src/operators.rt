@@ -10,7 +10,7 @@ ghost use Rattle.es5_parser.specs.Gives.{ahead};
 ghost use Rattle.es5_parser.specs.Loops.{binary_part, binaries, logical_part, logicals};
 ghost use Rattle.es5_parser.specs.Named.{Nests, GivesExpr, GivesOperand, shown_operand};
 
-use crate::fail::Fail;
+use descent::Fail;
 use crate::making::{binary, fits, joined};
 use crate::names::{Operand, Parser, Part, Reading};
 use crate::tokens::Tokens;

@@ -7,7 +7,7 @@ ghost use Rattle.es5_tree.specs.Grammar.Table.{table};
 ghost use Rattle.es5_parser.specs.Gives.{ahead};
 ghost use Rattle.es5_parser.specs.Named.{Nests, GivesOperand};
 
-use crate::fail::Fail;
+use descent::Fail;
 use crate::making::{expr, is_member, negated, token_kind};
 use crate::names::{Operand, Parser, Part, Reading};
 use crate::tokens::Tokens;

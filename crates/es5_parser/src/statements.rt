@@ -7,7 +7,7 @@ ghost use Rattle.es5_tree.specs.Grammar.Table.{table};
 ghost use Rattle.es5_parser.specs.Gives.{ahead};
 ghost use Rattle.es5_parser.specs.Named.{Nests, GivesExpr, GivesStmt};
 
-use crate::fail::Fail;
+use descent::Fail;
 use crate::making::name_of;
 use crate::names::{Parser, Part, Reading, Statement};
 use crate::tokens::Tokens;

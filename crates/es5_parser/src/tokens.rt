@@ -8,10 +8,11 @@ ghost use Rattle.es5_tree.specs.declared.terminal.Terminal.TheVariants as termin
 ghost use Rattle.es5_tree.specs.declared.token.EsMark.TheVariants as mark;
 ghost use Rattle.es5_tree.specs.Grammar.Terminals.{code_of, op, token_code};
 ghost use Rattle.es5_tree.specs.Grammar.Table.{begins_expression, begins_statement};
-ghost use Rattle.es5_parser.specs.Gives.{ahead, GivesToken, one_of, codes};
+ghost use Rattle.descent.specs.Sets.{one_of};
+ghost use Rattle.es5_parser.specs.Gives.{ahead, GivesToken, codes};
 
 use crate::cursor::is_directive;
-use crate::fail::Fail;
+use descent::{Fail, either};
 use crate::terminal::{code_of, terminal_of};
 use es5_tree::{EsMark, EsToken, Keyword, Terminal};
 
@@ -19,12 +20,6 @@ use es5_tree::{EsMark, EsToken, Keyword, Terminal};
 #[derive(Drop)]
 pub struct Tokens<'a> {
     pub rest: &'a [EsToken],
-}
-
-fn either(one: bool, other: bool) -> bool
-    ensures { result ≡ (one || other) }
-{
-    one || other
 }
 
 fn is_one_of(terminal: Terminal, terminals: &[Terminal]) -> bool

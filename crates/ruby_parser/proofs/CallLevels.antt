@@ -21,8 +21,8 @@ use Rattle.ruby_meaning.specs.Grammar.Classes.{a, key}
 use Rattle.ruby_meaning.specs.Grammar.Primaries.{lambda_block}
 use Rattle.ruby_meaning.specs.Grammar.Seen.{Seen}
 use Rattle.ruby_meaning.specs.Grammar.Table.{table}
-use Rattle.ruby_parser.specs.declared.fail.Fail.{Fail}
-use Rattle.ruby_parser.specs.declared.fail.Fail.TheVariants.{NoMemory, Refused}
+use Rattle.descent.specs.declared.fail.Fail.{Fail}
+use Rattle.descent.specs.declared.fail.Fail.TheVariants.{NoMemory, Refused}
 use Rattle.ruby_parser.specs.declared.value.Value.{Value}
 use Rattle.ruby_parser.specs.Ahead.{class_code, MakesAs}
 use Rattle.ruby_parser.specs.Named.{GivesValue}

@@ -4,9 +4,9 @@ use Rattle.grammar.specs.FormReaders.{and_then, read_many, read_many_from}
 use Rattle.grammar.proofs.Loops.{read_many_from_is}
 use Rattle.ruby_meaning.specs.declared.tree.Node.{Node}
 use Rattle.ruby_meaning.specs.Grammar.Seen.{Seen}
-use Rattle.ruby_parser.specs.declared.fail.Fail.{Fail}
-use Rattle.ruby_parser.specs.declared.fail.Fail.TheVariants.{NoMemory, Refused}
-use Rattle.ruby_parser.specs.Ahead.{Gives}
+use Rattle.descent.specs.declared.fail.Fail.{Fail}
+use Rattle.descent.specs.declared.fail.Fail.TheVariants.{NoMemory, Refused}
+use Rattle.descent.specs.Gives.{Gives}
 use Rattle.ruby_parser.specs.Definitions.{GivesMore}
 
 by_outcome : (n : Node) (o : Result (List Node × List Seen) (List Seen)) (result : Result (List Node) Fail) (rest : List Seen)

@@ -11,10 +11,11 @@ use Rattle.ruby_meaning.specs.declared.token.Mark.TheVariants as mark
 use Rattle.ruby_meaning.specs.Grammar.Classes.{a, op, marked_op}
 use Rattle.ruby_meaning.specs.Grammar.Seen.{Seen}
 use Rattle.ruby_meaning.specs.Grammar.Table.{table, begins_value, begins_splat, begins_argument}
-use Rattle.ruby_parser.specs.declared.fail.Fail.{Fail}
-use Rattle.ruby_parser.specs.declared.fail.Fail.TheVariants.{NoMemory, Refused}
+use Rattle.descent.specs.declared.fail.Fail.{Fail}
+use Rattle.descent.specs.declared.fail.Fail.TheVariants.{NoMemory, Refused}
 use Rattle.ruby_parser.specs.declared.primary.Pairs.{Pairs}
-use Rattle.ruby_parser.specs.Ahead.{class_code, Gives}
+use Rattle.descent.specs.Gives.{Gives}
+use Rattle.ruby_parser.specs.Ahead.{class_code}
 use Rattle.ruby_parser.specs.Literals.{begins_pair, read_pairs_from, Splits, firsts, seconds, shown_pairs, pairs_from, read_pairs, next_pair, GivesPairsBehind}
 
 whole : {A : Type 0} (o : Result (A × List Seen) (List Seen)) → and_then o (λ ys r. Ok (ys, r)) ≡ o

@@ -7,8 +7,8 @@ use Rattle.ruby_meaning.specs.declared.tree.Node.{Node}
 use Rattle.ruby_meaning.specs.Grammar.Names.{part}
 use Rattle.ruby_meaning.specs.Grammar.Seen.{Seen}
 use Rattle.ruby_meaning.specs.Grammar.Table.{table}
-use Rattle.ruby_parser.specs.declared.fail.Fail.{Fail}
-use Rattle.ruby_parser.specs.declared.fail.Fail.TheVariants.{NoMemory, Refused}
+use Rattle.descent.specs.declared.fail.Fail.{Fail}
+use Rattle.descent.specs.declared.fail.Fail.TheVariants.{NoMemory, Refused}
 use Rattle.ruby_parser.specs.declared.names.Tree.{Tree}
 use Rattle.ruby_parser.specs.declared.names.Tree.TheVariants as tree
 use Rattle.ruby_parser.specs.declared.value.Reading.{Reading}

@@ -1,13 +1,14 @@
 -- What the parser's functions read of the tokens ahead.
-use Rattle.std.specs.Prelude.{◌≡◌, ℕ, Bool, true, false, ◌||◌, nat_eq, List, [], ◌∷◌, map, Result, Ok, Err}
+use Rattle.std.specs.Prelude.{◌≡◌, ℕ, List, map, Result, Ok, Err}
 use Rattle.ruby_meaning.specs.declared.production.Sign.{Sign}
 use Rattle.ruby_meaning.specs.declared.tree.Node.{Node}
 use Rattle.ruby_meaning.specs.Grammar.Classes.{code_of}
 use Rattle.ruby_meaning.specs.Grammar.Seen.{Seen}
 use Rattle.ruby_parser.specs.declared.cursor.Sight.{Sight}
 use Rattle.ruby_parser.specs.declared.cursor.Cursor.{Cursor}
-use Rattle.ruby_parser.specs.declared.fail.Fail.{Fail}
-use Rattle.ruby_parser.specs.declared.fail.Fail.TheVariants.{NoMemory, Refused}
+use Rattle.descent.specs.declared.fail.Fail.{Fail}
+use Rattle.descent.specs.declared.fail.Fail.TheVariants.{NoMemory}
+use Rattle.descent.specs.Gives.{Gives}
 
 abbrev pub see : Sight → Seen
 see s = record { token = s.token.now; sign = s.sign }
@@ -20,21 +21,6 @@ class_code t = code_of t.sign
 
 abbrev pub codes : List Sign → List ℕ
 codes signs = map code_of signs
-
-abbrev pub or_one_of : Bool → List ℕ → ℕ → Bool
-or_one_of found [] c = found
-or_one_of found (n ∷ ns) c = or_one_of (found || nat_eq n c) ns c
-
--- the set of these classes
-abbrev pub one_of : List ℕ → ℕ → Bool
-one_of ns c = or_one_of false ns c
-
--- The reading's outcome is the value, shown as the grammar has it, and the tokens behind it; or it stops at the token that
--- stands next.
-abbrev pub Gives : {A B : Type 0} → (B → A) → Result (A × List Seen) (List Seen) → Result B Fail → List Seen → Type 0
-Gives shown outcome (Ok a) rest = outcome ≡ Ok (shown a, rest)
-Gives shown outcome (Err NoMemory) rest = Unit {0}
-Gives shown outcome (Err Refused) rest = outcome ≡ Err rest
 
 abbrev pub GivesToken : Result (Seen × List Seen) (List Seen) → Result Sight Fail → List Seen → Type 0
 GivesToken = Gives see

@@ -20,9 +20,10 @@ use Rattle.ruby_parser.specs.Arguments.{first_rule, pair_rule, sees_block, block
 use Rattle.ruby_parser.specs.declared.arguments.Goes.{Goes}
 use Rattle.ruby_parser.specs.declared.arguments.Goes.TheVariants as goes
 use Rattle.ruby_parser.specs.declared.arguments.Step.{Step}
-use Rattle.ruby_parser.specs.declared.fail.Fail.{Fail}
-use Rattle.ruby_parser.specs.declared.fail.Fail.TheVariants.{NoMemory, Refused}
-use Rattle.ruby_parser.specs.Ahead.{class_code, Gives}
+use Rattle.descent.specs.declared.fail.Fail.{Fail}
+use Rattle.descent.specs.declared.fail.Fail.TheVariants.{NoMemory, Refused}
+use Rattle.descent.specs.Gives.{Gives}
+use Rattle.ruby_parser.specs.Ahead.{class_code}
 use Rattle.ruby_parser.specs.Shown.{shown_args}
 
 abbrev pub how_code : How → ℕ

@@ -14,8 +14,8 @@ use Rattle.ruby_meaning.specs.Grammar.Seen.{Seen}
 use Rattle.ruby_parser.specs.declared.calls.BlockParts.{BlockParts}
 use Rattle.ruby_parser.specs.declared.calls.Closed.{Closed}
 use Rattle.ruby_parser.specs.declared.calls.Tail.{Tail}
-use Rattle.ruby_parser.specs.declared.fail.Fail.{Fail}
-use Rattle.ruby_parser.specs.declared.fail.Fail.TheVariants.{NoMemory, Refused}
+use Rattle.descent.specs.declared.fail.Fail.{Fail}
+use Rattle.descent.specs.declared.fail.Fail.TheVariants.{NoMemory, Refused}
 use Rattle.ruby_parser.specs.Ahead.{see}
 use Rattle.ruby_parser.specs.Shown.{shown_args, shown_body}
 

@@ -27,9 +27,9 @@ use Rattle.ruby_parser.specs.declared.definitions.DefName.{DefName}
 use Rattle.ruby_parser.specs.declared.definitions.DefRest.{DefRest}
 use Rattle.ruby_meaning.specs.declared.tree.Params.{Params}
 use Rattle.ruby_parser.specs.declared.value.Body.{Body}
-use Rattle.ruby_parser.specs.declared.fail.Fail.{Fail}
+use Rattle.descent.specs.declared.fail.Fail.{Fail}
 use Rattle.ruby_parser.specs.Parameters.{see_if}
-use Rattle.ruby_parser.specs.declared.fail.Fail.TheVariants.{NoMemory, Refused}
+use Rattle.descent.specs.declared.fail.Fail.TheVariants.{NoMemory, Refused}
 use Rattle.ruby_parser.specs.Named.{many_from}
 use Rattle.ruby_parser.specs.declared.definitions.Branch.{Branch}
 use Rattle.ruby_parser.specs.declared.definitions.Ended.{Ended}

@@ -13,8 +13,8 @@ use Rattle.ruby_meaning.specs.Grammar.Names.{R}
 use Rattle.ruby_meaning.specs.Grammar.Primaries as g
 use Rattle.ruby_meaning.specs.Grammar.Seen.{Seen}
 use Rattle.ruby_meaning.specs.Grammar.Table.{table, begins_value}
-use Rattle.ruby_parser.specs.declared.fail.Fail.{Fail}
-use Rattle.ruby_parser.specs.declared.fail.Fail.TheVariants.{NoMemory, Refused}
+use Rattle.descent.specs.declared.fail.Fail.{Fail}
+use Rattle.descent.specs.declared.fail.Fail.TheVariants.{NoMemory, Refused}
 use Rattle.ruby_parser.specs.declared.primary.Pair.{Pair}
 use Rattle.ruby_parser.specs.declared.primary.Pairs.{Pairs}
 use Rattle.ruby_parser.specs.Ahead.{class_code}

@@ -15,8 +15,8 @@ use Rattle.ruby_meaning.specs.Grammar.Names.{R, sorts, part}
 use Rattle.ruby_meaning.specs.Grammar.Seen.{Seen}
 use Rattle.ruby_meaning.specs.Grammar.Table.{table}
 use Rattle.ruby_parser.specs.declared.cursor.Cursor.{Cursor}
-use Rattle.ruby_parser.specs.declared.fail.Fail.{Fail}
-use Rattle.ruby_parser.specs.declared.fail.Fail.TheVariants.{NoMemory, Refused}
+use Rattle.descent.specs.declared.fail.Fail.{Fail}
+use Rattle.descent.specs.declared.fail.Fail.TheVariants.{NoMemory, Refused}
 use Rattle.ruby_parser.specs.declared.names.Tree.{Tree}
 use Rattle.ruby_parser.specs.declared.names.Tree.TheVariants as of_tree
 use Rattle.ruby_parser.specs.declared.value.Value.{Value}
@@ -24,7 +24,8 @@ use Rattle.ruby_parser.specs.declared.value.Body.{Body}
 use Rattle.ruby_parser.specs.declared.args.Args.{Args}
 use Rattle.ruby_parser.specs.declared.value.Reading.{Reading}
 use Rattle.ruby_parser.specs.declared.cursor.Sight.{Sight}
-use Rattle.ruby_parser.specs.Ahead.{ahead, Gives, GivesNode, GivesToken}
+use Rattle.descent.specs.Gives.{Gives}
+use Rattle.ruby_parser.specs.Ahead.{ahead, GivesNode, GivesToken}
 use Rattle.ruby_parser.specs.Shown.{Shows, shown_value, shown_body, shown_args}
 
 abbrev pub GivesValue : Result ((Node × ℕ) × List Seen) (List Seen) → Result Value Fail → List Seen → Type 0

@@ -22,9 +22,10 @@ use Rattle.ruby_meaning.specs.Grammar.Parameters as g
 use Rattle.ruby_meaning.specs.Grammar.Seen.{Seen}
 use Rattle.ruby_meaning.specs.Grammar.Table.{table}
 use Rattle.ruby_parser.specs.declared.cursor.Sight.{Sight}
-use Rattle.ruby_parser.specs.declared.fail.Fail.{Fail}
-use Rattle.ruby_parser.specs.declared.fail.Fail.TheVariants.{NoMemory, Refused}
-use Rattle.ruby_parser.specs.Ahead.{see, class_code, Gives}
+use Rattle.descent.specs.declared.fail.Fail.{Fail}
+use Rattle.descent.specs.declared.fail.Fail.TheVariants.{NoMemory, Refused}
+use Rattle.descent.specs.Gives.{Gives}
+use Rattle.ruby_parser.specs.Ahead.{see, class_code}
 use Rattle.ruby_parser.specs.Named.{many_from}
 use Rattle.ruby_parser.specs.declared.parameters.Before.{Before}
 use Rattle.ruby_parser.specs.declared.parameters.Before.TheVariants as before

@@ -2,7 +2,7 @@
 
 ghost use Rattle.std.specs.Prelude.{◌≡◌, [], Some, length};
 
-use crate::fail::Fail;
+use descent::Fail;
 use crate::nodes::{has_items, has_one, is_none, or_else};
 use ruby_meaning::{Node, Nodes};
 use sqlite_items::Items;

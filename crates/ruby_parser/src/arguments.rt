@@ -3,7 +3,8 @@
 ghost use Rattle.std.specs.Prelude.{◌≡◌, ◌∷◌, [], suc, length, Some};
 ghost use Rattle.ruby_meaning.specs.Grammar.Actions as act;
 ghost use Rattle.ruby_meaning.specs.Grammar.Expressions as g;
-ghost use Rattle.ruby_parser.specs.Ahead.{ahead, see, Gives, MakesAs};
+ghost use Rattle.descent.specs.Gives.{Gives};
+ghost use Rattle.ruby_parser.specs.Ahead.{ahead, see, MakesAs};
 ghost use Rattle.ruby_parser.specs.Arguments as spec;
 ghost use Rattle.ruby_parser.specs.ArgumentSteps as step;
 ghost use Rattle.ruby_parser.specs.declared.arguments.Goes.TheVariants as goes;
@@ -13,7 +14,7 @@ ghost use Rattle.ruby_parser.specs.Shown.{shown_args, shown_value};
 use crate::args::Args;
 use crate::begins::{STARS, begins_argument};
 use crate::cursor::Cursor;
-use crate::fail::Fail;
+use descent::Fail;
 use crate::making::{fits, from_token, node, start};
 use crate::names::{Parser, Tree};
 use crate::value::{Reading, Value, Written};

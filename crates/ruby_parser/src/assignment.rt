@@ -9,7 +9,7 @@ ghost use Rattle.ruby_parser.specs.Named.{GivesValue, MakesValue, Nests, ReadsNo
 ghost use Rattle.ruby_parser.specs.Shown.{shown_value, written_code};
 
 use crate::cursor::{Cursor, Sight};
-use crate::fail::Fail;
+use descent::Fail;
 use crate::making::{ascii, fits, node, nodes, start};
 use crate::names::{Parser, Tree};
 use crate::value::{Reading, Value, Written};

@@ -14,7 +14,7 @@ ghost use Rattle.ruby_parser.specs.Named.{Nests, Reads, ReadsNode};
 ghost use Rattle.ruby_parser.specs.Shown.{shown_args, shown_body};
 
 use crate::cursor::{Cursor, Sight};
-use crate::fail::Fail;
+use descent::Fail;
 use crate::making::{filled, node, start, tokens};
 use crate::names::Parser;
 use crate::primary::VALUES;

@@ -3,7 +3,8 @@
 ghost use Rattle.std.specs.Prelude.{◌≡◌, is_some, suc, true};
 ghost use Rattle.ruby_meaning.specs.Grammar.Actions as act;
 ghost use Rattle.ruby_meaning.specs.Grammar.Expressions as g;
-ghost use Rattle.ruby_parser.specs.Ahead.{ahead, Gives, Makes, MakesAs};
+ghost use Rattle.descent.specs.Gives.{Gives};
+ghost use Rattle.ruby_parser.specs.Ahead.{ahead, Makes, MakesAs};
 ghost use Rattle.ruby_parser.specs.Commands as spec;
 ghost use Rattle.ruby_parser.specs.Named.{GivesValue, Nests, Reads, ReadsValue};
 ghost use Rattle.ruby_parser.specs.PassedArguments.{shown_passed};
@@ -14,7 +15,7 @@ use crate::begins::begins_argument;
 use crate::cursor::Cursor;
 use crate::hash::{first_span, items_of};
 use crate::lists::last_span;
-use crate::fail::Fail;
+use descent::Fail;
 use crate::making::{ascii, fits, node, nodes, to_end};
 use crate::names::Parser;
 use crate::passed::{Passed, parts_of};

@@ -4,10 +4,11 @@ ghost use Rattle.std.specs.Prelude.{◌≡◌, ℕ, [], ◌∷◌, length, map, 
 ghost use Rattle.grammar.specs.FormReaders.{next_in, read_token};
 ghost use Rattle.grammar.specs.Spelling.{token_in};
 ghost use Rattle.ruby_meaning.specs.Grammar.Classes.{code_of};
-ghost use Rattle.ruby_parser.specs.Ahead.{ahead, see, GivesToken, class_code, one_of, codes};
+ghost use Rattle.descent.specs.Sets.{one_of};
+ghost use Rattle.ruby_parser.specs.Ahead.{ahead, see, GivesToken, class_code, codes};
 
 use crate::class::class_of;
-use crate::fail::Fail;
+use descent::{Fail, either};
 use ruby_meaning::{Sign, Token};
 
 /// A token with its sign.
@@ -21,12 +22,6 @@ pub struct Sight<'a> {
 #[derive(Drop)]
 pub struct Cursor<'a> {
     pub rest: &'a [Sight<'a>],
-}
-
-fn either(one: bool, other: bool) -> bool
-    ensures { result ≡ (one || other) }
-{
-    one || other
 }
 
 fn is_one_of(sign: Sign, signs: &[Sign]) -> bool

@@ -9,14 +9,15 @@ ghost use Rattle.ruby_meaning.specs.Grammar.Table.{table};
 ghost use Rattle.grammar.specs.Readers.{read_named, read_rule};
 ghost use Rattle.grammar.specs.FormReaders.{next_in};
 ghost use Rattle.grammar.specs.Rules.{leaf, tree, named, absent, many};
-ghost use Rattle.ruby_parser.specs.Ahead.{ahead, see, Gives, GivesNode, Makes, MakesAs};
+ghost use Rattle.descent.specs.Gives.{Gives};
+ghost use Rattle.ruby_parser.specs.Ahead.{ahead, see, GivesNode, Makes, MakesAs};
 ghost use Rattle.ruby_parser.specs.Parameters.{see_if};
 ghost use Rattle.ruby_parser.specs.Definitions as spec;
 ghost use Rattle.ruby_parser.specs.Named.{GivesBody, many_from, Nests, Reads, ReadsBody, ReadsNode, ReadsToken, ReadsValue};
 ghost use Rattle.ruby_parser.specs.Shown.{shown_body, shown_value};
 
 use crate::cursor::{Cursor, Sight};
-use crate::fail::Fail;
+use descent::Fail;
 use crate::making::{fits, method_name, node, span_of, start, to_end, tokens, units};
 use crate::names::{Parser, Tree};
 use crate::parameters::{skip, variable_name};

@@ -7,7 +7,7 @@ ghost use Rattle.ruby_parser.specs.Nodes as spec;
 ghost use Rattle.ruby_parser.specs.Shown.{pairs_of, shown_args};
 
 use crate::args::Args;
-use crate::fail::Fail;
+use descent::Fail;
 use crate::lists::last_span;
 use crate::making::{node, to_end};
 use opal_base::Span;

@@ -10,7 +10,6 @@ mod class;
 mod command;
 mod cursor;
 mod definitions;
-mod fail;
 mod hash;
 mod lines;
 mod lists;

@@ -3,7 +3,8 @@
 ghost use Rattle.std.specs.Prelude.{◌≡◌, suc, [], ◌∷◌, length, map};
 ghost use Rattle.ruby_meaning.specs.Grammar.Actions as act;
 ghost use Rattle.ruby_meaning.specs.Grammar.Expressions as g;
-ghost use Rattle.ruby_parser.specs.Ahead.{ahead, see, Gives, MakesAs};
+ghost use Rattle.descent.specs.Gives.{Gives};
+ghost use Rattle.ruby_parser.specs.Ahead.{ahead, see, MakesAs};
 ghost use Rattle.ruby_parser.specs.Lists as spec;
 ghost use Rattle.ruby_parser.specs.Named.{GivesValue, Nests, Reads, ReadsNode, ReadsValue};
 ghost use Rattle.ruby_parser.specs.Shown.{shown_value};
@@ -11,7 +12,7 @@ ghost use Rattle.ruby_parser.specs.Shown.{shown_value};
 use crate::assignment::Right;
 use crate::begins::STARS;
 use crate::cursor::{Cursor, Sight};
-use crate::fail::Fail;
+use descent::Fail;
 use crate::making::{fits, from_token, node, span_of, start, to_end};
 use crate::names::{Parser, Tree};
 use crate::value::{Reading, Value, Written};

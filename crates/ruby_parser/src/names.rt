@@ -10,7 +10,7 @@ ghost use Rattle.ruby_parser.specs.Ahead.{ahead, GivesNode};
 ghost use Rattle.ruby_parser.specs.Named.{Nests, GivesBody, GivesValue, GivesArgs, GivesPart, is_read, production_of, read_plain, read_tree};
 
 use crate::cursor::Cursor;
-use crate::fail::Fail;
+use descent::Fail;
 use crate::args::Args;
 use crate::value::{Body, Reading, Value, Written};
 use ruby_meaning::{Node, Part, Production};

@@ -3,13 +3,14 @@
 ghost use Rattle.std.specs.Prelude.{◌≡◌, suc, length};
 ghost use Rattle.ruby_meaning.specs.Grammar.Actions as act;
 ghost use Rattle.ruby_meaning.specs.Grammar.Expressions as g;
-ghost use Rattle.ruby_parser.specs.Ahead.{ahead, see, codes, one_of, Makes};
+ghost use Rattle.descent.specs.Sets.{one_of};
+ghost use Rattle.ruby_parser.specs.Ahead.{ahead, see, codes, Makes};
 ghost use Rattle.ruby_parser.specs.Named.{GivesValue, MakesValue, Nests, ReadsNode, ReadsValue};
 ghost use Rattle.ruby_parser.specs.Operators as spec;
 ghost use Rattle.ruby_parser.specs.Shown.{shown_value};
 
 use crate::cursor::{Cursor, Sight};
-use crate::fail::Fail;
+use descent::Fail;
 use crate::making::{ascii, fits, from_token, method_name, node, nodes, start};
 use crate::names::{Parser, Tree};
 use crate::value::{Reading, Value, Written};

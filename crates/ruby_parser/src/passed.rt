@@ -4,13 +4,14 @@ ghost use Rattle.std.specs.Prelude.{◌≡◌, ◌||◌, ◌∷◌, [], is_some,
 ghost use Rattle.grammar.specs.Rules.{token};
 ghost use Rattle.ruby_meaning.specs.Grammar.Actions as act;
 ghost use Rattle.ruby_meaning.specs.Grammar.Parameters.{behind_newlines};
-ghost use Rattle.ruby_parser.specs.Ahead.{codes, one_of, MakesAs};
+ghost use Rattle.descent.specs.Sets.{one_of};
+ghost use Rattle.ruby_parser.specs.Ahead.{codes, MakesAs};
 ghost use Rattle.ruby_parser.specs.Named.{ReadsToken};
 ghost use Rattle.ruby_parser.specs.Shown.{shown_args};
 ghost use Rattle.ruby_parser.specs.PassedArguments.{is_no_args, shown_passed};
 
 use crate::cursor::{Cursor, Sight};
-use crate::fail::Fail;
+use descent::Fail;
 use crate::args::Args;
 use crate::hash::arguments_of;
 use crate::nodes::{has_items, is_none};

@@ -12,7 +12,7 @@ ghost use Rattle.ruby_parser.specs.Shown.{shown_value, written_code};
 
 use crate::calls::Tail;
 use crate::cursor::{Cursor, Sight};
-use crate::fail::Fail;
+use descent::Fail;
 use crate::making::{ascii, fits, method_name, node, span_of, start, to_end, units};
 use crate::names::Parser;
 use crate::passed::{ends_in_sign, has_pass};

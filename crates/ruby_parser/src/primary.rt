@@ -5,12 +5,13 @@ ghost use Rattle.grammar.specs.FormReaders.{next_in};
 ghost use Rattle.grammar.specs.Readers.{read_named, read_rule};
 ghost use Rattle.ruby_meaning.specs.Grammar.Primaries as g;
 ghost use Rattle.ruby_meaning.specs.Grammar.Table.{table};
-ghost use Rattle.ruby_parser.specs.Ahead.{ahead, Gives};
+ghost use Rattle.descent.specs.Gives.{Gives};
+ghost use Rattle.ruby_parser.specs.Ahead.{ahead};
 ghost use Rattle.ruby_parser.specs.Literals as spec;
 ghost use Rattle.ruby_parser.specs.Named.{Nests, Reads, ReadsNode, ReadsValue};
 
 use crate::cursor::Cursor;
-use crate::fail::Fail;
+use descent::Fail;
 use crate::making::{filled, integer, node, span_of, start, tokens, units};
 use crate::names::{Parser, Tree};
 use crate::hash::items_of;

@@ -17,7 +17,7 @@ ghost use Rattle.ruby_parser.specs.Parameters.{GivesParams};
 
 use crate::calls::{BlockParts, Closed, Tail};
 use crate::cursor::{Cursor, Sight};
-use crate::fail::Fail;
+use descent::Fail;
 use crate::making::{boxed_if, filled, node, span_of, start, to_end, tokens, units};
 use crate::names::Parser;
 use crate::hash::items_of;

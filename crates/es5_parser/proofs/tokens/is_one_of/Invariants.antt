@@ -1,6 +1,7 @@
 use Rattle.std.proofs.Common.{◌≡◌, drop}
 use Rattle.es5_tree.specs.Grammar.Terminals.{code_of}
-use Rattle.es5_parser.specs.Gives.{one_of, or_one_of, codes}
+use Rattle.descent.specs.Sets.{one_of, or_one_of}
+use Rattle.es5_parser.specs.Gives.{codes}
 use Rattle.es5_parser.proofs.tokens.is_one_of.Given as goal
 
 -- the terminals that are left decide

@@ -1,6 +1,7 @@
 use Rattle.std.proofs.Common.{◌≡◌, drop, map}
 use Rattle.ruby_meaning.specs.Grammar.Classes.{code_of}
-use Rattle.ruby_parser.specs.Ahead.{one_of, or_one_of, codes}
+use Rattle.descent.specs.Sets.{one_of, or_one_of}
+use Rattle.ruby_parser.specs.Ahead.{codes}
 use Rattle.ruby_parser.proofs.cursor.is_one_of.Given as goal
 
 -- the classes that are left decide

@@ -1,5 +1,6 @@
 use Rattle.std.proofs.Common.{arith, ◌∙◌, sym, ap, length}
-use Rattle.ruby_parser.specs.Ahead.{ahead, codes, one_of}
+use Rattle.descent.specs.Sets.{one_of}
+use Rattle.ruby_parser.specs.Ahead.{ahead, codes}
 use Rattle.ruby_parser.specs.Parameters.{behind_those}
 use Rattle.ruby_parser.proofs.Skipped.{many_all_skipped, none_skipped, one_skipped, one_fewer, nothing_left}
 use Rattle.ruby_parser.proofs.parameters.skip.Goals as goal

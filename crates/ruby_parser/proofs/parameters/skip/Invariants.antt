@@ -1,5 +1,6 @@
 use Rattle.std.proofs.Common.{◌≡◌, ◌-◌, ◌≤◌, length}
-use Rattle.ruby_parser.specs.Ahead.{ahead, codes, one_of}
+use Rattle.descent.specs.Sets.{one_of}
+use Rattle.ruby_parser.specs.Ahead.{ahead, codes}
 use Rattle.ruby_parser.specs.Parameters.{behind_those}
 use Rattle.ruby_parser.proofs.parameters.skip.Given as goal
 

@@ -1,7 +1,8 @@
 use Rattle.std.proofs.Common.{rules, arith}
 use Rattle.std.proofs.lemmas.Grind.{common_steps}
 use Rattle.grammar.proofs.Turns.{one_more}
-use Rattle.ruby_parser.specs.Ahead.{ahead, codes, one_of}
+use Rattle.descent.specs.Sets.{one_of}
+use Rattle.ruby_parser.specs.Ahead.{ahead, codes}
 use Rattle.ruby_parser.specs.Operators.{operators_from}
 use Rattle.ruby_parser.specs.Shown.{written_code}
 use Rattle.ruby_parser.proofs.names.Parser.operators.Goals as goal

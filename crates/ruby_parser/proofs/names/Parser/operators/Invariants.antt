@@ -1,5 +1,6 @@
 use Rattle.std.proofs.Common.{◌≡◌, ◌-◌, length}
-use Rattle.ruby_parser.specs.Ahead.{ahead, codes, one_of}
+use Rattle.descent.specs.Sets.{one_of}
+use Rattle.ruby_parser.specs.Ahead.{ahead, codes}
 use Rattle.ruby_parser.specs.Operators.{operators_from}
 use Rattle.ruby_parser.specs.Shown.{shown_value, written_code}
 use Rattle.ruby_parser.proofs.names.Parser.operators.Given as goal

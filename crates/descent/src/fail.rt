@@ -11,7 +11,7 @@ pub enum Fail {
 
 impl From<AllocError> for Fail {
     ghost use Rattle.std.specs.Prelude.{◌≡◌};
-    ghost use Rattle.es5_parser.specs.declared.fail.Fail.{Fail};
+    ghost use Rattle.descent.specs.declared.fail.Fail.{Fail};
 
     ghost from_gives = { λ _ e. e ≡ Fail.NoMemory };
 
@@ -22,7 +22,7 @@ impl From<AllocError> for Fail {
 
 impl From<NoMemory> for Fail {
     ghost use Rattle.std.specs.Prelude.{◌≡◌};
-    ghost use Rattle.es5_parser.specs.declared.fail.Fail.{Fail};
+    ghost use Rattle.descent.specs.declared.fail.Fail.{Fail};
 
     ghost from_gives = { λ _ e. e ≡ Fail.NoMemory };
 
