@@ -21,3 +21,6 @@ pub mod LiteralLists
 pub mod CallLevels
 pub mod PartTurns
 pub mod CommandBegins
+pub mod NoLevel
+pub mod Parts
+pub mod SightsRead

@@ -1,6 +1,9 @@
 pub mod Ahead
 pub mod Shown
 pub mod Named
+pub mod NoLevel
+pub mod Parts
+pub mod Sights
 pub mod Operators
 pub mod Assignments
 pub mod Lists

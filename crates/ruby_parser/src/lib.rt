@@ -20,6 +20,7 @@ mod operators;
 mod parameters;
 mod post;
 mod primary;
+mod sight;
 mod passed;
 mod value;
 mod values;
