@@ -1,24 +1,35 @@
 -- Loading a program comes to one thing.
-use Rattle.std.proofs.Common.{◌≡◌, ◌≢◌, ◌⊎◌, ℕ, zero, suc, ◌+◌, ◌<◌, ◌≤◌, Bool, true, false, List, [], ◌∷◌, length, take, Option, None, Some, refl, sym, ap, ap₂, ◌∙◌, subst, arith, inl, inr, ⊎_elim}
+use Rattle.std.proofs.Common.{◌≡◌, ◌⊎◌, ℕ, zero, suc, ◌<◌, ◌≤◌, Bool, true, false, cond, List, [], ◌∷◌, ◌++◌, length, take, slice_get, Option, None, Some, refl, sym, ap, ap₂, ◌∙◌, subst, arith, inl, inr, ⊎_elim}
 use Rattle.std.specs.List.{flat_map}
-use Rattle.std.specs.Str.{IsUtf8, is_utf8, chars, IsValidUpTo}
+use Rattle.std.specs.Str.{IsUtf8, is_utf8, IsValidUpTo}
 use Rattle.std.specs.Char.Escape.{encode_utf16}
-use Rattle.std.proofs.lemmas.List.{take_all}
+use Rattle.std.proofs.lemmas.List.{take_all, length-append}
 use Rattle.std.proofs.lemmas.Str.{IsUtf8-from_is_utf8, is_utf8-from_IsUtf8, IsUtf8-nil}
-use Rattle.std.proofs.lemmas.Bool.{cases_lt, false≢true}
+use Rattle.std.proofs.lemmas.Bool.{cases_lt}
 use Rattle.opal_base.specs.declared.place.Pos.{Pos}
 use Rattle.opal_base.specs.Outside.{FileMap}
 use Rattle.opal_base.specs.Place.{place_at}
 use Rattle.opal_base.specs.Text.{IsDecoded}
 use Rattle.opal_base.proofs.Texts.{one_text_is, one_offset_is, decoded_or_not_is}
 use Rattle.ruby_meaning.specs.declared.construct.Construct.{Construct}
-use Rattle.ruby_meaning.specs.declared.construct.Construct.TheVariants.{FileTooLong, BadByte, NotYet}
-use Rattle.ruby_meaning.specs.declared.tree.Bundle.{Bundle}
+use Rattle.ruby_meaning.specs.declared.construct.Construct.TheVariants as construct
+use Rattle.ruby_meaning.specs.declared.scope.Resolved.{Resolved}
+use Rattle.ruby_meaning.specs.declared.token.Token.{Token}
 use Rattle.ruby_meaning.specs.declared.tree.Program.{Program}
-use Rattle.ruby_meaning.specs.Lines.{Spells, IsNotYet, place}
-use Rattle.ruby_meaning.specs.Load.{most_bytes, IsProgram, IsTooLong, IsBadByte, IsUnbuilt, IsRefused, Loaded, Whole, Missing, Refused, Loads}
+use Rattle.ruby_meaning.specs.Lexing.Laws.{is_eof, HasOneEof}
+use Rattle.ruby_meaning.specs.Lexing.Lexes.{Lexes}
+use Rattle.ruby_meaning.specs.Grammar.Laws.{SpellsInLimit, before_end, sight}
+use Rattle.ruby_meaning.specs.Grammar.Refusals.{GrammarRefusal, RefusedTokens}
+use Rattle.ruby_meaning.specs.Grammar.Seen.{seen, seen_behind}
+use Rattle.ruby_meaning.specs.Scoping.Scopes.{Scoped, OwnScopeFault}
+use Rattle.ruby_meaning.specs.Load.{most_bytes, place, TextSpells, TextResolves, TextRefused, NoTokens, NoProgram, NoScopes, HoldsText, IsProgram, IsBadByte, IsRefused, TooLong, NoText, BadText, Loaded, Whole, Missing, Refused, Loads}
 use Rattle.ruby_meaning.specs.Laws.{SomeLoad, OneLoad}
-use Rattle.ruby_meaning.proofs.Quoted.{one_program, one_refusal, never_both, one_of_both}
+use Rattle.ruby_meaning.proofs.Lexing.Once as lexing
+use Rattle.ruby_meaning.proofs.Lexing.Order.{one_eof}
+use Rattle.ruby_meaning.proofs.Lexing.Total.{some_lexing}
+use Rattle.ruby_meaning.proofs.Grammar.Programs as grammar
+use Rattle.ruby_meaning.proofs.Grammar.Refusals.{one_construct, some_construct}
+use Rattle.ruby_meaning.proofs.Scoping.Once as scoping
 
 -- ---- something
 
@@ -47,44 +58,162 @@ bad_from [] isnt k e = absurd (isnt IsUtf8-nil)
 bad_from (b ∷ bytes) isnt zero e = absurd (omega (arith, e))
 bad_from (b ∷ bytes) isnt (suc k) e = valid_front (b ∷ bytes) k (omega (arith, e)) (λ m above u. isnt (subst IsUtf8 (take_all m (b ∷ bytes) (omega (arith, e, above))) u))
 
-decoded_load : (bytes : List ℕ) → length bytes ≤ most_bytes → (units : List ℕ) → IsDecoded bytes units → ((program : Program) × Spells units program) ⊎ ((line : ℕ) × IsNotYet units line)
-    → (files : FileMap) (main : List ℕ) → files main ≡ Some bytes → (loaded : Loaded) × Loads files main loaded
-decoded_load bytes short units d (inl spelled) files main e = (Whole (record { main = spelled.0 }), (bytes, e, record { short = short; units = units; decoded = d; spells = spelled.1 }))
-decoded_load bytes short units d (inr not) files main e = (Refused main (place not.0 0) NotYet, (refl, bytes, e, record { short = short; units = units; decoded = d; line = not.1; at = refl }))
+-- ---- the token at which a list of tokens is refused
 
-bad_load : (bytes : List ℕ) → length bytes ≤ most_bytes → (offset : ℕ) → IsValidUpTo bytes offset → (files : FileMap) (main : List ℕ) → files main ≡ Some bytes → (loaded : Loaded) × Loads files main loaded
-bad_load bytes short offset until files main e =
+seen_length : (before tokens : List Token) → length (seen_behind before tokens) ≡ length tokens
+seen_length before [] = refl
+seen_length before (t ∷ tokens) = ap suc (seen_length (t ∷ before) tokens)
+
+cut_length : (b : Bool) (t : Token) (rest : List Token) (n : ℕ) → length rest ≤ n → length (cond b [] (t ∷ rest)) ≤ suc n
+cut_length true t rest n l = omega arith
+cut_length false t rest n l = omega (arith, l)
+
+-- the tokens before the end token are fewer
+front_length : (front : List Token) (eof : Token) → is_eof eof.kind ≡ true → length (before_end (front ++ eof ∷ [])) ≤ length front
+front_length [] eof e = subst (λ b. length (cond b [] (eof ∷ [])) ≤ 0) (sym e) (omega arith)
+front_length (t ∷ front) eof e = cut_length (is_eof t.kind) t (before_end (front ++ eof ∷ [])) (length front) (front_length front eof e)
+
+sight_length : (tokens : List Token) → HasOneEof tokens → length (sight tokens) < length tokens
+unfolding seen
+sight_length tokens h =
+    let shorter = subst (λ ts. length (before_end ts) ≤ length h.front) (sym h.split) (front_length h.front h.eof h.last) in
+    let whole = ap length h.split ∙ length-append h.front (h.eof ∷ []) in
+    omega (arith, shorter, whole, seen_length [] (before_end tokens))
+
+token_there : (tokens : List Token) (at : ℕ) → at < length tokens → (t : Token) × (slice_get tokens at ≡ Some t)
+token_there [] at l = absurd (omega (arith, l))
+token_there (t ∷ tokens) zero l = (t, refl)
+token_there (t ∷ tokens) (suc at) l = token_there tokens at (omega (arith, l))
+
+placed : (tokens : List Token) (at : ℕ) (c : Construct) → HasOneEof tokens → GrammarRefusal tokens at c → (pos : Pos) × RefusedTokens tokens pos c
+placed tokens at c h r =
+    let t = token_there tokens at (omega (arith, r.fault.within, sight_length tokens h)) in
+    (t.0.pos, record { at = at; refusal = r; token = t.0; stands = t.1; place = refl })
+
+-- ---- a text is taken or refused
+
+abbrev TextRead : List ℕ → Type 0
+TextRead text = ((resolved : Resolved) × TextResolves text resolved) ⊎ ((pos : Pos) × (c : Construct) × TextRefused text pos c)
+
+spelled_read : (text : List ℕ) (program : Program) → TextSpells text program → TextRead text
+spelled_read text program h = elim (scoping.scoped_or_refused program) [
+  | inl x ↦ inl (x.0, record { program = program; spelled = h; scoped = x.1 })
+  | inr x ↦ inr (x.0, x.1, NoScopes program h x.2)
+]
+
+lexed_read : (text : List ℕ) (tokens : List Token) → Lexes text tokens → TextRead text
+lexed_read text tokens h = elim (grammar.some_answer tokens) [
+  | inl x ↦ spelled_read text x.0 (record { tokens = tokens; lexes = h; spells = x.1 })
+  | inr x ↦
+      let c = some_construct tokens x.0 x.1 in
+      let p = placed tokens x.0 c.0 (one_eof text tokens h) c.1 in
+      inr (p.0, c.0, NoProgram tokens h p.1)
+]
+
+text_read : (text : List ℕ) → TextRead text
+text_read text = elim (some_lexing text) [
+  | inl x ↦ lexed_read text x.0 x.1
+  | inr x ↦ inr (x.0, x.1, NoTokens x.2)
+]
+
+-- ---- and so is a file
+
+abbrev Read : List ℕ → Type 0
+Read bytes = ((resolved : Resolved) × IsProgram bytes resolved) ⊎ ((pos : Pos) × (c : Construct) × IsRefused bytes pos c)
+
+decoded_read : (bytes text : List ℕ) → HoldsText bytes text → Read bytes
+decoded_read bytes text h = elim (text_read text) [
+  | inl x ↦ inl (x.0, record { text = text; holds = h; resolves = x.1 })
+  | inr x ↦ inr (x.0, x.1, BadText text h x.2)
+]
+
+bad_read : (bytes : List ℕ) → length bytes ≤ most_bytes → (offset : ℕ) → IsValidUpTo bytes offset → Read bytes
+bad_read bytes short offset until =
     let front = decoded_of (take offset bytes) until.front in
-    (Refused main (place_at front.0 (length front.0)) BadByte, (refl, bytes, e, record { short = short; offset = offset; valid = until; front = front.0; decoded = front.1; at = refl }))
+    inr (place_at front.0 (length front.0), construct.BadByte, NoText (record { short = short; offset = offset; valid = until; front = front.0; decoded = front.1; at = refl }) refl)
 
-file_load : (bytes : List ℕ) (files : FileMap) (main : List ℕ) → files main ≡ Some bytes → (loaded : Loaded) × Loads files main loaded
-file_load bytes files main e = ⊎_elim
-    (λ long. (Refused main (place 0 0) FileTooLong, (refl, bytes, e, record { long = long; at = refl })))
+file_read : (bytes : List ℕ) → Read bytes
+file_read bytes = ⊎_elim
+    (λ long. inr (place 0 0, construct.FileTooLong, TooLong long refl refl))
     (λ short. pick (is_utf8 bytes)
-    (λ is. let d = decoded_of bytes (IsUtf8-from_is_utf8 bytes is) in decoded_load bytes short d.0 d.1 (one_of_both d.0) files main e)
-    (λ isnt. let v = bad_from bytes (λ u. let is = is_utf8-from_IsUtf8 bytes u in cc) (length bytes) refl in bad_load bytes short v.0 v.1 files main e))
+    (λ is. let d = decoded_of bytes (IsUtf8-from_is_utf8 bytes is) in decoded_read bytes d.0 (record { short = short; decoded = d.1 }))
+    (λ isnt. let v = bad_from bytes (λ u. let is = is_utf8-from_IsUtf8 bytes u in cc) (length bytes) refl in bad_read bytes short v.0 v.1))
     (cases_lt most_bytes (length bytes))
+
+file_load : (files : FileMap) (main bytes : List ℕ) → files main ≡ Some bytes → Read bytes → (loaded : Loaded) × Loads files main loaded
+file_load files main bytes e (inl x) = (Whole (record { main = x.0 }), (bytes, e, x.1))
+file_load files main bytes e (inr x) = (Refused main x.0 x.1, (refl, bytes, e, x.2))
 
 loaded_of : (files : FileMap) (main : List ℕ) (content : Option (List ℕ)) → files main ≡ content → (loaded : Loaded) × Loads files main loaded
 loaded_of files main None e = (Missing main, (refl, e))
-loaded_of files main (Some bytes) e = file_load bytes files main e
+loaded_of files main (Some bytes) e = file_load files main bytes e (file_read bytes)
 
 pub some_load_is : SomeLoad
 some_load_is files main = loaded_of files main (files main) refl
 
--- ---- one thing
+-- ---- a text is read in one way
 
--- a refusal of a file is one of three
-data Cause (bytes : List ℕ) (pos : Pos) (construct : Construct) : Type 0 where
-  long : construct ≡ FileTooLong → IsTooLong bytes pos → Cause bytes pos construct
-  bad : construct ≡ BadByte → IsBadByte bytes pos → Cause bytes pos construct
-  unbuilt : construct ≡ NotYet → IsUnbuilt bytes pos → Cause bytes pos construct
+one_program : (text : List ℕ) (a b : Program) → TextSpells text a → TextSpells text b → a ≡ b
+one_program text a b p q =
+    grammar.one_program q.tokens a b (subst (λ ts. SpellsInLimit a ts) (lexing.one_list text p.tokens q.tokens p.lexes q.lexes) p.spells).spelled q.spells.spelled
 
-cause_of : (bytes : List ℕ) (pos : Pos) (construct : Construct) → IsRefused bytes pos construct → Cause bytes pos construct
-cause_of bytes pos FileTooLong r = long refl r
-cause_of bytes pos BadByte r = bad refl r
-cause_of bytes pos NotYet r = unbuilt refl r
-cause_of bytes pos _ r = absurd r
+one_resolved : (text : List ℕ) (a b : Resolved) → TextResolves text a → TextResolves text b → a ≡ b
+one_resolved text a b p q = scoping.one_scoping q.program a b (subst (λ x. Scoped x a) (one_program text p.program q.program p.spelled q.spelled) p.scoped) q.scoped
+
+not_misspelled : (text : List ℕ) (tokens : List Token) (program : Program) (pos : Pos) (c : Construct) → TextSpells text program → Lexes text tokens → RefusedTokens tokens pos c → ⊥
+not_misspelled text tokens program pos c h g r =
+    grammar.never_both tokens program r.at (subst (λ ts. SpellsInLimit program ts) (lexing.one_list text h.tokens tokens h.lexes g) h.spells) r.refusal.fault
+
+not_refused : (text : List ℕ) (resolved : Resolved) (pos : Pos) (c : Construct) → TextResolves text resolved → TextRefused text pos c → ⊥
+not_refused text resolved pos c h (NoTokens f) = lexing.never_both text h.spelled.tokens pos c h.spelled.lexes f
+not_refused text resolved pos c h (NoProgram tokens g r) = not_misspelled text tokens h.program pos c h.spelled g r
+not_refused text resolved pos c h (NoScopes program g f) =
+    scoping.not_both program resolved pos c (subst (λ p. Scoped p resolved) (one_program text h.program program h.spelled g) h.scoped) f
+
+one_token : (tokens : List Token) (i j : ℕ) (t u : Token) → i ≡ j → slice_get tokens i ≡ Some t → slice_get tokens j ≡ Some u → t ≡ u
+one_token tokens i j t u e p q = let f = subst (λ k. slice_get tokens k ≡ Some t) e p in cc
+
+one_place : (tokens : List Token) (pos other : Pos) (c d : Construct) → RefusedTokens tokens pos c → RefusedTokens tokens other d → (pos ≡ other) × (c ≡ d)
+one_place tokens pos other c d p q =
+    let same = one_construct tokens p.at q.at c d p.refusal q.refusal in
+    let t = one_token tokens p.at q.at p.token q.token same.0 p.stands q.stands in
+    (p.place ∙ ap (λ (t : Token). t.pos) t ∙ sym q.place, same.1)
+
+abbrev Same : Pos → Pos → Construct → Construct → Type 0
+Same pos other c d = (pos ≡ other) × (c ≡ d)
+
+one_fault : (text : List ℕ) (pos other : Pos) (c d : Construct) → TextRefused text pos c → TextRefused text other d → Same pos other c d
+one_fault text pos other c d (NoTokens f) (NoTokens e) = lexing.one_fault text pos other c d f e
+one_fault text pos other c d (NoTokens f) (NoProgram tokens g e) = absurd (lexing.never_both text tokens pos c g f)
+one_fault text pos other c d (NoTokens f) (NoScopes program g e) = absurd (lexing.never_both text g.tokens pos c g.lexes f)
+one_fault text pos other c d (NoProgram tokens h f) (NoTokens e) = absurd (lexing.never_both text tokens other d h e)
+one_fault text pos other c d (NoProgram tokens h f) (NoProgram others g e) =
+    one_place others pos other c d (subst (λ ts. RefusedTokens ts pos c) (lexing.one_list text tokens others h g) f) e
+one_fault text pos other c d (NoProgram tokens h f) (NoScopes program g e) = absurd (not_misspelled text tokens program pos c g h f)
+one_fault text pos other c d (NoScopes program h f) (NoTokens e) = absurd (lexing.never_both text h.tokens other d h.lexes e)
+one_fault text pos other c d (NoScopes program h f) (NoProgram tokens g e) = absurd (not_misspelled text tokens program other d h g e)
+one_fault text pos other c d (NoScopes program h f) (NoScopes others g e) =
+    scoping.one_refusal others pos other c d (subst (λ p. OwnScopeFault p pos c) (one_program text program others h g) f) e
+
+-- ---- and so is a file
+
+one_text : (bytes a b : List ℕ) → HoldsText bytes a → HoldsText bytes b → a ≡ b
+one_text bytes a b p q = one_text_is bytes a b p.decoded q.decoded
+
+one_content_of : (bytes : List ℕ) (a b : Resolved) → IsProgram bytes a → IsProgram bytes b → a ≡ b
+one_content_of bytes a b p q = one_resolved q.text a b (subst (λ text. TextResolves text a) (one_text bytes p.text q.text p.holds q.holds) p.resolves) q.resolves
+
+not_long : (bytes text : List ℕ) → HoldsText bytes text → most_bytes < length bytes → ⊥
+not_long bytes text h l = omega (arith, h.short, l)
+
+not_bad : (bytes text : List ℕ) (pos : Pos) → HoldsText bytes text → IsBadByte bytes pos → ⊥
+not_bad bytes text pos h b = decoded_or_not_is bytes b.offset b.valid text h.decoded
+
+not_refused_too : (bytes : List ℕ) (resolved : Resolved) (pos : Pos) (c : Construct) → IsProgram bytes resolved → IsRefused bytes pos c → ⊥
+not_refused_too bytes resolved pos c h (TooLong l at is) = not_long bytes h.text h.holds l
+not_refused_too bytes resolved pos c h (NoText b is) = not_bad bytes h.text pos h.holds b
+not_refused_too bytes resolved pos c h (BadText text g f) =
+    not_refused text resolved pos c (subst (λ text. TextResolves text resolved) (one_text bytes h.text text h.holds g) h.resolves) f
 
 one_bad : (bytes : List ℕ) (pos other : Pos) → IsBadByte bytes pos → IsBadByte bytes other → pos ≡ other
 one_bad bytes pos other p q =
@@ -92,37 +221,19 @@ one_bad bytes pos other p q =
     let f = one_text_is (take q.offset bytes) p.front q.front (subst (λ k. IsDecoded (take k bytes) p.front) n p.decoded) q.decoded in
     p.at ∙ ap (λ front. place_at front (length front)) f ∙ sym q.at
 
-same_place : (pos other : Pos) → pos.line ≡ other.line → pos.col ≡ other.col → pos ≡ other
-same_place pos other l c = ap₂ (λ line col. let p : Pos = record { line = line; col = col } in p) l c
+one_refused : (bytes : List ℕ) (pos other : Pos) (c d : Construct) → IsRefused bytes pos c → IsRefused bytes other d → Same pos other c d
+one_refused bytes pos other c d (TooLong l at is) (TooLong m there same) = (at ∙ sym there, is ∙ sym same)
+one_refused bytes pos other c d (TooLong l at is) (NoText b same) = absurd (omega (arith, l, b.short))
+one_refused bytes pos other c d (TooLong l at is) (BadText text h f) = absurd (not_long bytes text h l)
+one_refused bytes pos other c d (NoText a is) (TooLong m there same) = absurd (omega (arith, m, a.short))
+one_refused bytes pos other c d (NoText a is) (NoText b same) = (one_bad bytes pos other a b, is ∙ sym same)
+one_refused bytes pos other c d (NoText a is) (BadText text h f) = absurd (not_bad bytes text pos h a)
+one_refused bytes pos other c d (BadText text h f) (TooLong m there same) = absurd (not_long bytes text h m)
+one_refused bytes pos other c d (BadText text h f) (NoText b same) = absurd (not_bad bytes text other h b)
+one_refused bytes pos other c d (BadText text h f) (BadText others g e) =
+    one_fault others pos other c d (subst (λ text. TextRefused text pos c) (one_text bytes text others h g) f) e
 
-one_unbuilt : (bytes : List ℕ) (pos other : Pos) → IsUnbuilt bytes pos → IsUnbuilt bytes other → pos ≡ other
-one_unbuilt bytes pos other p q =
-    let u = one_text_is bytes p.units q.units p.decoded q.decoded in
-    same_place pos other (one_refusal q.units pos.line other.line (subst (λ units. IsNotYet units pos.line) u p.line) q.line) (p.at ∙ sym q.at)
-
-abbrev SameRefusal : Pos → Pos → Construct → Construct → Type 0
-SameRefusal pos other construct name = (pos ≡ other) × (construct ≡ name)
-
-one_cause : (bytes : List ℕ) (pos other : Pos) (construct name : Construct) → Cause bytes pos construct → Cause bytes other name → SameRefusal pos other construct name
-one_cause bytes pos other construct name (long e p) (long f q) = (p.at ∙ sym q.at, e ∙ sym f)
-one_cause bytes pos other construct name (long e p) (bad f q) = absurd (omega (arith, p.long, q.short))
-one_cause bytes pos other construct name (long e p) (unbuilt f q) = absurd (omega (arith, p.long, q.short))
-one_cause bytes pos other construct name (bad e p) (long f q) = absurd (omega (arith, q.long, p.short))
-one_cause bytes pos other construct name (bad e p) (bad f q) = (one_bad bytes pos other p q, e ∙ sym f)
-one_cause bytes pos other construct name (bad e p) (unbuilt f q) = absurd (decoded_or_not_is bytes p.offset p.valid q.units q.decoded)
-one_cause bytes pos other construct name (unbuilt e p) (long f q) = absurd (omega (arith, q.long, p.short))
-one_cause bytes pos other construct name (unbuilt e p) (bad f q) = absurd (decoded_or_not_is bytes q.offset q.valid p.units p.decoded)
-one_cause bytes pos other construct name (unbuilt e p) (unbuilt f q) = (one_unbuilt bytes pos other p q, e ∙ sym f)
-
-not_refused : (bytes : List ℕ) (program : Program) (pos : Pos) (construct : Construct) → IsProgram bytes program → Cause bytes pos construct → ⊥
-not_refused bytes program pos construct p (long e q) = omega (arith, p.short, q.long)
-not_refused bytes program pos construct p (bad e q) = decoded_or_not_is bytes q.offset q.valid p.units p.decoded
-not_refused bytes program pos construct p (unbuilt e q) =
-    never_both q.units program pos.line (subst (λ units. Spells units program) (one_text_is bytes p.units q.units p.decoded q.decoded) p.spells) q.line
-
-one_program_of : (bytes : List ℕ) (program other : Program) → IsProgram bytes program → IsProgram bytes other → program ≡ other
-one_program_of bytes program other p q =
-    one_program q.units program other (subst (λ units. Spells units program) (one_text_is bytes p.units q.units p.decoded q.decoded) p.spells) q.spells
+-- ---- one thing
 
 -- the two contents of a file are one
 one_content : (files : FileMap) (main bytes other : List ℕ) → files main ≡ Some bytes → files main ≡ Some other → bytes ≡ other
@@ -131,20 +242,20 @@ one_content files main bytes other e f = cc
 pub one_load_is : OneLoad
 one_load_is files main (Whole bundle) (Whole other) p q =
     let b = one_content files main p.0 q.0 p.1 q.1 in
-    ap (λ program. Whole (record { main = program })) (one_program_of q.0 bundle.main other.main (subst (λ x. IsProgram x bundle.main) b p.2) q.2)
+    ap (λ resolved. Whole (record { main = resolved })) (one_content_of q.0 bundle.main other.main (subst (λ x. IsProgram x bundle.main) b p.2) q.2)
 one_load_is files main (Whole bundle) (Missing name) p q = let e = p.1 in let f = q.1 in cc
-one_load_is files main (Whole bundle) (Refused name pos construct) p q =
+one_load_is files main (Whole bundle) (Refused name pos c) p q =
     let b = one_content files main p.0 q.1 p.1 q.2 in
-    absurd (not_refused q.1 bundle.main pos construct (subst (λ x. IsProgram x bundle.main) b p.2) (cause_of q.1 pos construct q.3))
+    absurd (not_refused_too q.1 bundle.main pos c (subst (λ x. IsProgram x bundle.main) b p.2) q.3)
 one_load_is files main (Missing name) (Whole bundle) p q = let e = p.1 in let f = q.1 in cc
 one_load_is files main (Missing name) (Missing other) p q = ap Missing (p.0 ∙ sym q.0)
-one_load_is files main (Missing name) (Refused other pos construct) p q = let e = p.1 in let f = q.2 in cc
-one_load_is files main (Refused name pos construct) (Whole bundle) p q =
+one_load_is files main (Missing name) (Refused other pos c) p q = let e = p.1 in let f = q.2 in cc
+one_load_is files main (Refused name pos c) (Whole bundle) p q =
     let b = one_content files main p.1 q.0 p.2 q.1 in
-    absurd (not_refused q.0 bundle.main pos construct q.2 (cause_of q.0 pos construct (subst (λ x. IsRefused x pos construct) b p.3)))
-one_load_is files main (Refused name pos construct) (Missing other) p q = let e = p.2 in let f = q.1 in cc
-one_load_is files main (Refused name pos construct) (Refused other at what) p q =
+    absurd (not_refused_too q.0 bundle.main pos c q.2 (subst (λ x. IsRefused x pos c) b p.3))
+one_load_is files main (Refused name pos c) (Missing other) p q = let e = p.2 in let f = q.1 in cc
+one_load_is files main (Refused name pos c) (Refused other at what) p q =
     let b = one_content files main p.1 q.1 p.2 q.2 in
-    let same = one_cause q.1 pos at construct what (cause_of q.1 pos construct (subst (λ x. IsRefused x pos construct) b p.3)) (cause_of q.1 at what q.3) in
+    let same = one_refused q.1 pos at c what (subst (λ x. IsRefused x pos c) b p.3) q.3 in
     let n : name ≡ other = p.0 ∙ sym q.0 in
-    ap (λ n. Refused n pos construct) n ∙ ap₂ (λ p c. Refused other p c) same.0 same.1
+    ap (λ n. Refused n pos c) n ∙ ap₂ (λ p d. Refused other p d) same.0 same.1

@@ -3,7 +3,7 @@ use Rattle.std.proofs.Common.{◌≡◌, inl, inr, ℕ, ◌+◌, ◌-◌, ◌≤
 use Rattle.std.proofs.lemmas.Bool.{cases_lt}
 use Rattle.opal_base.specs.Shown.{HostCall, Wrote, output_of, Ended, Going, Shows}
 use Rattle.opal_base.specs.Text.{utf8_of}
-use Rattle.ruby_meaning.specs.declared.tree.Bundle.{Bundle}
+use Rattle.ruby_meaning.specs.declared.bundle.Bundle.{Bundle}
 use Rattle.ruby_meaning.specs.State.{Text, State, Result, Outcome, Ends, Starved, first_state}
 use Rattle.ruby_meaning.specs.Eval.{eval_to}
 use Rattle.ruby_meaning.specs.Run.{RubyEnd, end_of, shown, ruby_run}
@@ -48,7 +48,7 @@ more_shown n m s p q output x e =
 
 -- ---- the laws
 
-run_grows : (bundle : Bundle) (input : Text) (n k : ℕ) → Grows n (n + k) (first_state input) (eval_to n bundle.main.body (first_state input) n) (eval_to (n + k) bundle.main.body (first_state input) (n + k))
+run_grows : (bundle : Bundle) (input : Text) (n k : ℕ) → Grows n (n + k) (first_state input) (eval_to n bundle.main.program.body (first_state input) n) (eval_to (n + k) bundle.main.program.body (first_state input) (n + k))
 run_grows bundle input n k = grows_to (n + k) n (omega arith) _ _ n (n + k) (omega arith)
 
 pub more_units : MoreUnits

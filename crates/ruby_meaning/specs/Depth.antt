@@ -1,6 +1,6 @@
 -- How deep a program is: the nodes on the longest path.
 use Rattle.std.specs.Prelude.{ℕ, suc, max, List, [], ◌∷◌, Option, None, Some}
-use Rattle.ruby_meaning.specs.declared.tree.Base.TheOpen.{Base-F, Kind-F, ModuleForm-F, Node-F, Params-F}
+use Rattle.ruby_meaning.specs.declared.tree.Base.TheOpen.{Base-F, Kind-F, ModuleForm-F, Params-F}
 use Rattle.ruby_meaning.specs.declared.tree.Base.TheFolds.{fold-Base, fold-Kind, fold-ModuleForm, fold-Node, fold-Params}
 use Rattle.ruby_meaning.specs.declared.tree.Base.{Base}
 use Rattle.ruby_meaning.specs.declared.tree.Kind.{Kind}

@@ -1,14 +1,13 @@
 -- Laws of the definitions.
-use Rattle.std.specs.Prelude.{◌≡◌, ◌⊎◌, ℕ, ◌+◌, List, ◌++◌, map}
+use Rattle.std.specs.Prelude.{◌≡◌, ℕ, ◌+◌, true, List, ◌++◌, map}
 use Rattle.opal_base.specs.Outside.{FileMap}
 use Rattle.opal_base.specs.Shown.{Ended, Shows, ShowsInTurn}
-use Rattle.ruby_meaning.specs.declared.tree.Bundle.{Bundle}
-use Rattle.ruby_meaning.specs.declared.tree.Program.{Program}
+use Rattle.ruby_meaning.specs.declared.bundle.Bundle.{Bundle}
 use Rattle.ruby_meaning.specs.State.{Text}
 use Rattle.ruby_meaning.specs.Eval.{puts_text}
 use Rattle.ruby_meaning.specs.Run.{RubyEnd, Finished, ruby_run}
-use Rattle.ruby_meaning.specs.Lines.{Spells, IsNotYet, program_of}
-use Rattle.ruby_meaning.specs.Load.{Loaded, Loads}
+use Rattle.ruby_meaning.specs.Puts.{putting}
+use Rattle.ruby_meaning.specs.Load.{Loaded, Loads, IsSound}
 
 -- once a run has ended, more units change nothing
 abbrev pub MoreUnits : Type 0
@@ -22,23 +21,14 @@ OneEnd = (bundle : Bundle) (input : Text) (n m : ℕ) (output other : List ℕ) 
 abbrev pub OutputGrows : Type 0
 OutputGrows = (bundle : Bundle) (input : Text) (n k : ℕ) (output : List ℕ) → Shows (ruby_run bundle input n) output → (more : List ℕ) × Shows (ruby_run bundle input (n + k)) (output ++ more)
 
--- a program of lines `puts 'text'` writes the texts one after the other and finishes
+-- a program of calls of `puts` with one text writes the texts one after the other and finishes
 abbrev pub PutsInTurn : Type 0
-PutsInTurn = (texts : List (List ℕ)) (input : Text) → ShowsInTurn (ruby_run (record { main = program_of texts }) input) (map puts_text texts) Finished
+PutsInTurn = (bundle : Bundle) (input : Text) → (putting bundle.main.program.body).only_puts ≡ true
+    → ShowsInTurn (ruby_run bundle input) (map puts_text (putting bundle.main.program.body).texts) Finished
 
--- a text spells one program at most
-abbrev pub OneProgram : Type 0
-OneProgram = (text : List ℕ) (program other : Program) → Spells text program → Spells text other → program ≡ other
-
--- a text has one first line at most that isn't built
-abbrev pub OneRefusal : Type 0
-OneRefusal = (text : List ℕ) (line other : ℕ) → IsNotYet text line → IsNotYet text other → line ≡ other
-
-abbrev pub NeverBoth : Type 0
-NeverBoth = (text : List ℕ) (program : Program) (line : ℕ) → Spells text program → IsNotYet text line → ⊥
-
-abbrev pub OneOfBoth : Type 0
-OneOfBoth = (text : List ℕ) → ((program : Program) × Spells text program) ⊎ ((line : ℕ) × IsNotYet text line)
+-- a bundle that some file spells is such a program
+abbrev pub OnlyPuts : Type 0
+OnlyPuts = (bundle : Bundle) → IsSound bundle → (putting bundle.main.program.body).only_puts ≡ true
 
 -- loading comes to something
 abbrev pub SomeLoad : Type 0

@@ -5,27 +5,57 @@ use Rattle.opal_base.specs.Outside.{FileMap}
 use Rattle.opal_base.specs.Place.{place_at}
 use Rattle.opal_base.specs.Text.{IsDecoded}
 use Rattle.opal_base.specs.declared.place.Pos.{Pos}
+use Rattle.ruby_meaning.specs.declared.bundle.Bundle.{Bundle}
 use Rattle.ruby_meaning.specs.declared.construct.Construct.{Construct}
-use Rattle.ruby_meaning.specs.declared.construct.Construct.TheVariants.{BadByte, FileTooLong, NotYet}
-use Rattle.ruby_meaning.specs.declared.tree.Bundle.{Bundle}
+use Rattle.ruby_meaning.specs.declared.construct.Construct.TheVariants as construct
+use Rattle.ruby_meaning.specs.declared.scope.Resolved.{Resolved}
+use Rattle.ruby_meaning.specs.declared.token.Token.{Token}
 use Rattle.ruby_meaning.specs.declared.tree.Program.{Program}
-use Rattle.ruby_meaning.specs.Lines.{Spells, IsNotYet, place}
+use Rattle.ruby_meaning.specs.Lexing.Lexes.{Lexes, LexFault}
+use Rattle.ruby_meaning.specs.Grammar.Laws.{SpellsInLimit}
+use Rattle.ruby_meaning.specs.Grammar.Refusals.{RefusedTokens}
+use Rattle.ruby_meaning.specs.Scoping.Scopes.{Scoped, OwnScopeFault}
+
+abbrev pub place : ℕ → ℕ → Pos
+place line col = record { line = line; col = col }
 
 -- the longest file, in bytes
 abbrev pub most_bytes : ℕ
 most_bytes = 1048576
 
--- the bytes are a file that spells the program
-pub record IsProgram (bytes : List ℕ) (program : Program) : Type 0 where
-  pub short : length bytes ≤ most_bytes
-  pub units : List ℕ
-  pub decoded : IsDecoded bytes units
-  pub spells : Spells units program
+-- ---- a text, step by step
 
--- a file that is too long is refused at its start
-pub record IsTooLong (bytes : List ℕ) (pos : Pos) : Type 0 where
-  pub long : most_bytes < length bytes
-  pub at : pos ≡ place 0 0
+-- the text's tokens spell the program, which isn't too deep
+pub record TextSpells (text : List ℕ) (program : Program) : Type 0 where
+  pub tokens : List Token
+  pub lexes : Lexes text tokens
+  pub spells : SpellsInLimit program tokens
+
+-- the text spells a program that becomes this one where its names are resolved
+pub record TextResolves (text : List ℕ) (resolved : Resolved) : Type 0 where
+  pub program : Program
+  pub spelled : TextSpells text program
+  pub scoped : Scoped program resolved
+
+-- The text is refused so: it has no tokens, or they spell no program, or the names, jumps and requires of its program
+-- aren't in order.
+pub data TextRefused (text : List ℕ) (pos : Pos) (c : Construct) : Type 0 where
+  NoTokens : LexFault text pos c → TextRefused text pos c
+  NoProgram : (tokens : List Token) → Lexes text tokens → RefusedTokens tokens pos c → TextRefused text pos c
+  NoScopes : (program : Program) → TextSpells text program → OwnScopeFault program pos c → TextRefused text pos c
+
+-- ---- a file
+
+-- the bytes are those of the text, and not too many
+pub record HoldsText (bytes text : List ℕ) : Type 0 where
+  pub short : length bytes ≤ most_bytes
+  pub decoded : IsDecoded bytes text
+
+-- the bytes are a file of this program, whose names are resolved
+pub record IsProgram (bytes : List ℕ) (resolved : Resolved) : Type 0 where
+  pub text : List ℕ
+  pub holds : HoldsText bytes text
+  pub resolves : TextResolves text resolved
 
 -- bytes that are no UTF-8 are refused behind their longest front that is
 pub record IsBadByte (bytes : List ℕ) (pos : Pos) : Type 0 where
@@ -36,20 +66,13 @@ pub record IsBadByte (bytes : List ℕ) (pos : Pos) : Type 0 where
   pub decoded : IsDecoded (take offset bytes) front
   pub at : pos ≡ place_at front (length front)
 
--- a line whose form isn't built yet is refused at its start
-pub record IsUnbuilt (bytes : List ℕ) (pos : Pos) : Type 0 where
-  pub short : length bytes ≤ most_bytes
-  pub units : List ℕ
-  pub decoded : IsDecoded bytes units
-  pub line : IsNotYet units pos.line
-  pub at : pos.col ≡ 0
+-- The bytes are a file that is refused so: it is too long, or no UTF-8, or its text is refused.
+pub data IsRefused (bytes : List ℕ) (pos : Pos) (c : Construct) : Type 0 where
+  TooLong : most_bytes < length bytes → pos ≡ place 0 0 → c ≡ construct.FileTooLong → IsRefused bytes pos c
+  NoText : IsBadByte bytes pos → c ≡ construct.BadByte → IsRefused bytes pos c
+  BadText : (text : List ℕ) → HoldsText bytes text → TextRefused text pos c → IsRefused bytes pos c
 
--- the bytes are a file that is refused so
-abbrev pub IsRefused : List ℕ → Pos → Construct → Type 0
-IsRefused bytes pos FileTooLong = IsTooLong bytes pos
-IsRefused bytes pos BadByte = IsBadByte bytes pos
-IsRefused bytes pos NotYet = IsUnbuilt bytes pos
-IsRefused bytes pos _ = ⊥
+-- ---- loading
 
 -- what loading comes to
 pub data Loaded : Type 0 where
@@ -61,7 +84,7 @@ pub data Loaded : Type 0 where
 abbrev pub Loads : FileMap → List ℕ → Loaded → Type 0
 Loads files main (Whole bundle) = (bytes : List ℕ) × (files main ≡ Some bytes) × IsProgram bytes bundle.main
 Loads files main (Missing name) = (name ≡ main) × (files main ≡ None)
-Loads files main (Refused name pos construct) = (name ≡ main) × (bytes : List ℕ) × (files main ≡ Some bytes) × IsRefused bytes pos construct
+Loads files main (Refused name pos c) = (name ≡ main) × (bytes : List ℕ) × (files main ≡ Some bytes) × IsRefused bytes pos c
 
 -- a bundle of a program that some file spells
 abbrev pub IsSound : Bundle → Type 0

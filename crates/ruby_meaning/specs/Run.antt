@@ -1,7 +1,7 @@
 -- The run of a bundle on an input, with a number of units.
 use Rattle.std.specs.Prelude.{ℕ}
 use Rattle.opal_base.specs.Shown.{Shown, Ended, Going, output_of}
-use Rattle.ruby_meaning.specs.declared.tree.Bundle.{Bundle}
+use Rattle.ruby_meaning.specs.declared.bundle.Bundle.{Bundle}
 use Rattle.ruby_meaning.specs.State.{Text, first_state, Result, Val, Outside, Outcome, Ends, Starved}
 use Rattle.ruby_meaning.specs.Eval.{eval_to}
 
@@ -20,4 +20,4 @@ shown (Ends r s g) = Ended (output_of s.calls) (end_of r)
 shown (Starved s) = Going (output_of s.calls)
 
 unfoldable pub ruby_run : Bundle → Text → ℕ → Shown RubyEnd
-ruby_run bundle input n = shown (eval_to n bundle.main.body (first_state input) n)
+ruby_run bundle input n = shown (eval_to n bundle.main.program.body (first_state input) n)

@@ -1,6 +1,6 @@
 //! Laws of the definitions, each the contract of a function that does nothing.
 
-ghost use Rattle.ruby_meaning.specs.Laws.{MoreUnits, OneEnd, OutputGrows, PutsInTurn, OneProgram, OneRefusal, NeverBoth, OneOfBoth, SomeLoad, OneLoad};
+ghost use Rattle.ruby_meaning.specs.Laws.{MoreUnits, OneEnd, OutputGrows, PutsInTurn, OnlyPuts, SomeLoad, OneLoad};
 
 /// Once a run has ended, more units change nothing; so it has one end, and its output only grows.
 pub fn runs()
@@ -9,17 +9,14 @@ pub fn runs()
     ensures output_grows { OutputGrows }
 {}
 
-/// A program of lines `puts 'text'` writes the texts one after the other and finishes.
+/// A program of calls of `puts` with one text writes the texts one after the other and finishes.
 pub fn puts_in_turn()
     ensures { PutsInTurn }
 {}
 
-/// A text spells one program, or has one line that isn't built yet, and never both.
-pub fn one_reading()
-    ensures one_program { OneProgram }
-    ensures one_refusal { OneRefusal }
-    ensures never_both { NeverBoth }
-    ensures one_of_both { OneOfBoth }
+/// A bundle that some file spells is such a program.
+pub fn only_puts()
+    ensures { OnlyPuts }
 {}
 
 /// Loading a program comes to one thing.

@@ -7,12 +7,6 @@ pub struct Program {
     pub body: Node,
 }
 
-/// The programs that are compiled together: the main file.
-#[derive(Drop)]
-pub struct Bundle {
-    pub main: Program,
-}
-
 pub type Nodes = Items<Node>;
 
 /// A node: its form, the span from the start of its first token to the end of its last, and the

@@ -1,5 +1,6 @@
 -- Which construct the refusal of a list of tokens names: the first of these that applies.
 use Rattle.std.specs.Prelude.{◌≡◌, ℕ, suc, Bool, true, false, if◌then◌else◌, List, [], ◌∷◌, ◌++◌, take, slice_get, Option, Some, None, ◌⊎◌}
+use Rattle.opal_base.specs.declared.place.Pos.{Pos}
 use Rattle.grammar.specs.Spelling.{IsFront}
 use Rattle.grammar.specs.Reading.{FrontUpTo}
 use Rattle.ruby_meaning.specs.declared.construct.Construct.{Construct}
@@ -8,6 +9,7 @@ use Rattle.ruby_meaning.specs.declared.production.Sign.{Sign}
 use Rattle.ruby_meaning.specs.declared.production.Sign.TheVariants as sign
 use Rattle.ruby_meaning.specs.declared.token.Mark.TheVariants as mark
 use Rattle.ruby_meaning.specs.declared.token.Token.{Token}
+use Rattle.ruby_meaning.specs.declared.token.TokenKind.{TokenKind}
 use Rattle.ruby_meaning.specs.declared.token.TokenKind.TheVariants as kind
 use Rattle.ruby_meaning.specs.declared.token.Word.TheVariants as word
 use Rattle.ruby_meaning.specs.Grammar.Seen.{Seen}
@@ -21,13 +23,13 @@ most_levels = 4294967294
 
 -- ---- what could stand at the place
 
--- a token of that sign, which has no place in the text
-abbrev pub stand_in : Sign → Seen
-stand_in s = record { token = record { kind = kind.Eof; from = 0; to = 0; pos = no_place; end = no_place; blank_before = true; blank_after = true }; sign = s }
+-- a token of that kind and that sign, which has no place in the text
+abbrev pub stand_in : TokenKind → Sign → Seen
+stand_in k s = record { token = record { kind = k; from = 0; to = 0; pos = no_place; end = no_place; blank_before = true; blank_after = true }; sign = s }
 
 abbrev pub stand_ins : List Sign → List Seen
 stand_ins [] = []
-stand_ins (s ∷ ss) = stand_in s ∷ stand_ins ss
+stand_ins (s ∷ ss) = stand_in kind.Eof s ∷ stand_ins ss
 
 -- the tokens before the place, with these in place of those from there on, are a front of a program
 abbrev pub MayFollow : List Token → ℕ → List Sign → Type 0
@@ -135,6 +137,14 @@ ConstructAt tokens at c =
 pub record GrammarRefusal (tokens : List Token) (at : ℕ) (c : Construct) : Type 0 where
   pub fault : GrammarFault tokens at
   pub named : ConstructAt tokens at c
+
+-- The same with the place of the token at which they are refused, which may be the end token.
+pub record RefusedTokens (tokens : List Token) (pos : Pos) (c : Construct) : Type 0 where
+  pub at : ℕ
+  pub refusal : GrammarRefusal tokens at c
+  pub token : Token
+  pub stands : slice_get tokens at ≡ Some token
+  pub place : pos ≡ token.pos
 
 -- ---- laws
 

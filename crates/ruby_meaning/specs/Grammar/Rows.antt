@@ -1,36 +1,31 @@
 -- Lists of tokens that are refused, each with the place.
-use Rattle.std.specs.Prelude.{ℕ, pos, codes, true, List, [], ◌∷◌}
+use Rattle.std.specs.Prelude.{ℕ, pos, codes, List, [], ◌∷◌}
 use Rattle.grammar.specs.Reading.{RefusedAt}
-use Rattle.ruby_meaning.specs.declared.production.Sign.{Sign}
 use Rattle.ruby_meaning.specs.declared.production.Sign.TheVariants as sign
 use Rattle.ruby_meaning.specs.declared.token.Mark.{Mark}
 use Rattle.ruby_meaning.specs.declared.token.Mark.TheVariants as mark
-use Rattle.ruby_meaning.specs.declared.token.TokenKind.{TokenKind}
 use Rattle.ruby_meaning.specs.declared.token.TokenKind.TheVariants as kind
 use Rattle.ruby_meaning.specs.declared.token.Word.{Word}
 use Rattle.ruby_meaning.specs.declared.token.Word.TheVariants as word
 use Rattle.ruby_meaning.specs.Grammar.Seen.{Seen}
-use Rattle.ruby_meaning.specs.Grammar.Actions.{no_place}
 use Rattle.ruby_meaning.specs.Grammar.Table.{table}
 use Rattle.ruby_meaning.specs.Grammar.Laws.{whole_file, limit}
-
-abbrev pub seen_as : TokenKind → Sign → Seen
-seen_as k s = record { token = record { kind = k; from = 0; to = 0; pos = no_place; end = no_place; blank_before = true; blank_after = true }; sign = s }
+use Rattle.ruby_meaning.specs.Grammar.Refusals.{stand_in}
 
 abbrev pub name : Seen
-name = seen_as (kind.Name (codes "x")) sign.Name
+name = stand_in (kind.Name (codes "x")) sign.Name
 
 abbrev pub lambda_name : Seen
-lambda_name = seen_as (kind.Name (codes "lambda")) sign.Name
+lambda_name = stand_in (kind.Name (codes "lambda")) sign.Name
 
 abbrev pub one : Seen
-one = seen_as (kind.Int (pos 1)) sign.Int
+one = stand_in (kind.Int (pos 1)) sign.Int
 
 abbrev pub key : Word → Seen
-key w = seen_as (kind.Keyword w) (sign.Keyword w)
+key w = stand_in (kind.Keyword w) (sign.Keyword w)
 
 abbrev pub op : Mark → Seen
-op m = seen_as (kind.Op m) (sign.Op m)
+op m = stand_in (kind.Op m) (sign.Op m)
 
 abbrev pub Refused : List Seen → ℕ → Type 0
 Refused tokens at = RefusedAt table whole_file limit tokens at

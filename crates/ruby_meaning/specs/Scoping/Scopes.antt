@@ -8,7 +8,6 @@ use Rattle.ruby_meaning.specs.declared.scope.Resolved.{Resolved}
 use Rattle.ruby_meaning.specs.declared.scope.Scope.{Scope}
 use Rattle.ruby_meaning.specs.declared.scope.Seen.{Seen}
 use Rattle.ruby_meaning.specs.declared.tree.Program.{Program}
-use Rattle.ruby_meaning.specs.Scoping.Names.{Name}
 use Rattle.ruby_meaning.specs.Scoping.Walk.{part, no_targets}
 
 -- before the first token of a file
