@@ -5,7 +5,7 @@ use Rattle.grammar.specs.Checks.{first}
 use Rattle.grammar.specs.FormReaders.{and_then, next_in}
 use Rattle.grammar.specs.Readers.{read_rule}
 use Rattle.grammar.specs.Rules.{Sort, El, deep, Rule, Grammar, token, token_where, absent, sequence, choice, view, node, many, suffixes, suffix, starting, bind, needs, named}
-use Rattle.grammar.specs.Spelling.{token_in}
+use Rattle.descent.specs.Sets.{behind_open}
 
 err_then : {T A B : Type 0} (o : Result (A × List T) (List T)) (k : A → List T → Result (B × List T) (List T)) (ts : List T) → o ≡ Err ts → and_then o k ≡ Err ts
 err_then o k ts h = ap (λ z. and_then z k) h
@@ -139,11 +139,6 @@ module _ {T N K : Type 0} {sorts : K → Sort} (G : Grammar T N K sorts) (names 
   opened c (bind r null begins goes_on q) h t ts e = absurd h
   opened c (needs n r) h t ts e = absurd h
   opened c (named k) h t ts e = absurd h
-
--- the tokens behind one of these classes, where one stands next
-abbrev pub behind_open : {T : Type 0} → (T → ℕ) → (ℕ → Bool) → List T → List T
-behind_open code opens [] = []
-behind_open code opens (t ∷ ts) = if opens (code t) then ts else t ∷ ts
 
 module _ {T N K : Type 0} {sorts : K → Sort} (G : Grammar T N K sorts) (names : ℕ → (k : K) → List T → Result (El T N (sorts k) × List T) (List T)) where
   pub stopped : (opens : ℕ → Bool) {s : Sort} (r : Rule T N K sorts s) → Stops G names opens r → ((c : ℕ) → opens c ≡ true → Opens G names c r) → (ts : List T) → read_rule G names r 0 ts ≡ Err (behind_open G.code opens ts)

@@ -5,7 +5,8 @@ use Rattle.std.proofs.lemmas.Bool.Decides.{nat_tests}
 use Rattle.grammar.specs.Readers.{read_named, read_rule}
 use Rattle.grammar.specs.Rules.{Sort, tree, marked}
 use Rattle.grammar.proofs.Stability.{read_named_is}
-use Rattle.descent.proofs.NoLevels.{Stops, Opens, behind_open, stopped}
+use Rattle.descent.specs.Sets.{behind_open}
+use Rattle.descent.proofs.NoLevels.{Stops, Opens, stopped}
 use Rattle.ruby_meaning.specs.declared.production.Production.{Production}
 use Rattle.ruby_meaning.specs.declared.production.Production.TheVariants as p
 use Rattle.ruby_meaning.specs.declared.token.Mark.TheVariants as mark
