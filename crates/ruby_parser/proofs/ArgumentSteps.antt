@@ -16,8 +16,8 @@ use Rattle.descent.specs.declared.fail.Fail.{Fail}
 use Rattle.ruby_parser.specs.declared.arguments.Goes.{Goes}
 use Rattle.ruby_parser.specs.declared.arguments.Goes.TheVariants as goes
 use Rattle.ruby_parser.specs.declared.arguments.Step.{Step}
-use Rattle.ruby_parser.specs.Arguments.{Outcome, first_rule, pair_rule}
-use Rattle.ruby_parser.specs.ArgumentSteps.{argument_step, pair_step, value_rule, weight, Lighter}
+use Rattle.ruby_parser.specs.Arguments.{first_rule, pair_rule}
+use Rattle.ruby_parser.specs.ArgumentSteps.{argument_step, go_on, goes_somewhere, pair_step, value_rule, weight, Lighter}
 use Rattle.ruby_parser.proofs.ArgumentsRead.{none_found}
 use Rattle.ruby_parser.proofs.StepsOn.{arguments_on, command_on, pairs_on}
 
@@ -83,3 +83,13 @@ first_lighter command d r b ts x rest result m e l =
 pub pair_lighter : (d r : Bool) (b : ℕ) (ts : List Seen) (x : act.Args) (rest : List Seen) (result : Result Step Fail) (m : ℕ)
     → read_rule table (read_named table) (pair_rule d r) b ts ≡ Ok (x, rest) → Lighter (length rest) result m → Lighter (length ts) result m
 pair_lighter d r b ts x rest result m e l = lighter_on (length rest) (length ts) result m (left_of table predictive (pair_rule d r) (checks_pair d r) b ts x rest e) l
+
+pub weight_somewhere : (g : Goes) (n : ℕ) → goes_somewhere g ≡ true → weight g n ≡ suc n
+weight_somewhere goes.Nowhere n h = cc
+weight_somewhere goes.Arguments n h = refl
+weight_somewhere goes.Pairs n h = refl
+
+pub gone_on : (d r blocks : Bool) (b : ℕ) (g : Goes) (x : act.Args) (ts : List Seen) → goes_somewhere g ≡ false → go_on d r blocks b g x ts ≡ Ok (x, ts)
+gone_on d r blocks b goes.Nowhere x ts h = refl
+gone_on d r blocks b goes.Arguments x ts h = cc
+gone_on d r blocks b goes.Pairs x ts h = cc

@@ -1,5 +1,5 @@
 -- What begins the arguments of a command.
-use Rattle.std.proofs.Common.{◌≡◌, ℕ, ◌<◌, Bool, true, false, ◌&&◌, ◌||◌, List, [], ◌∷◌, refl}
+use Rattle.std.proofs.Common.{◌≡◌, Bool, true, false, ◌&&◌, ◌||◌, List, [], ◌∷◌, refl}
 use Rattle.grammar.specs.Checks.{first}
 use Rattle.grammar.specs.FormReaders.{next_in}
 use Rattle.grammar.proofs.Classes.{included_at}

@@ -32,13 +32,13 @@ abbrev pub shown_command : Command → act.Args × ℕ
 shown_command x = (shown_args x.args, marked_code x.marked)
 
 abbrev pub called_with : Option act.Callee → Kind → List Node × Option Node → Option Pos → Kind
-called_with None k passed marked = k
-called_with (Some (act.method_called receiver name)) k passed marked = kind.Call receiver name passed.0 passed.1 marked
-called_with (Some act.super_called) k passed marked = kind.Super (Some passed.0) passed.1
+called_with None k passed place = k
+called_with (Some (act.method_called receiver name)) k passed place = kind.Call receiver name passed.0 passed.1 place
+called_with (Some act.super_called) k passed place = kind.Super (Some passed.0) passed.1
 
 -- the call or `super` of arguments and a block
 abbrev pub command_kind : Kind → List Node × Option Node → Option Pos → Kind
-command_kind k passed marked = called_with (act.callee_in (out-Kind k)) k passed marked
+command_kind k passed place = called_with (act.callee_in (out-Kind k)) k passed place
 
 abbrev pub command_value : Node × ℕ → act.Args × ℕ → Option Node → Node × ℕ
 command_value callee x block = act.command_node callee (record { value = (x, block) })
@@ -71,3 +71,10 @@ abbrev pub yield_behind : Bool → Bool → ℕ → Node × ℕ → List Seen �
 yield_behind d r b l ts =
     read_one_suffix (λ t. first table (yield_under d r) (table.code t)) (λ l. act.yields l && nat_le (depth_of l.0) (suc b)) act.yield_command
     (read_rule table (read_named table) (yield_under d r) (suc b)) l ts
+
+-- the call of a method, which may have a receiver, with arguments and a block
+abbrev pub call_of : Option Node → List ℕ → List Node × Option Node → Option Pos → Kind
+call_of receiver name passed place = kind.Call receiver name passed.0 passed.1 place
+
+abbrev pub super_of : List Node × Option Node → Kind
+super_of passed = kind.Super (Some passed.0) passed.1

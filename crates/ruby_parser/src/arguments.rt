@@ -1,28 +1,26 @@
 //! Arguments and pairs.
 
-ghost use Rattle.std.specs.Prelude.{◌≡◌, ◌∷◌, [], suc, length, Some};
-ghost use Rattle.ruby_meaning.specs.Grammar.Actions as act;
+ghost use Rattle.std.specs.Prelude.{◌≡◌, suc, length};
 ghost use Rattle.ruby_meaning.specs.Grammar.Expressions as g;
 ghost use Rattle.ruby_meaning.specs.Grammar.Names.{part};
 ghost use Rattle.ruby_meaning.specs.Grammar.Table.{table};
 ghost use Rattle.ruby_meaning.specs.declared.production.Production.TheVariants as p;
 ghost use Rattle.grammar.specs.Readers.{read_named};
-ghost use Rattle.descent.specs.Gives.{Gives};
-ghost use Rattle.ruby_parser.specs.Ahead.{ahead, see, MakesAs};
+ghost use Rattle.ruby_parser.specs.Ahead.{ahead};
 ghost use Rattle.ruby_parser.specs.Arguments as spec;
 ghost use Rattle.ruby_parser.specs.ArgumentSteps as step;
 ghost use Rattle.ruby_parser.specs.declared.arguments.Goes.TheVariants as goes;
-ghost use Rattle.ruby_parser.specs.Named.{GivesArgs, GivesValue, Nests, Reads, ReadsNode, ReadsValue};
-ghost use Rattle.ruby_parser.specs.Shown.{shown_args, shown_value};
+ghost use Rattle.ruby_parser.specs.Named.{GivesArgs, Nests, Reads, ReadsValue};
+ghost use Rattle.ruby_parser.specs.Shown.{shown_args};
 
 use crate::args::Args;
 use crate::assignment::Right;
 use crate::begins::{STARS, begins_argument};
 use crate::cursor::Cursor;
-use descent::Fail;
 use crate::making::{fits, from_token, node, start};
 use crate::names::{Parser, Tree};
 use crate::value::{Reading, Value, Written};
+use descent::Fail;
 use ruby_meaning::{Kind, Mark, Node, Part, Sign};
 use sqlite_items::Boxed;
 use std::alloc::Global;
@@ -215,7 +213,7 @@ impl<F: Fn(Global, &mut Cursor<'_>, Part, u32) -> Result<Reading, Fail> + Copy> 
     }
 
     /// A comma, if one stands behind an argument that takes more.
-    #[tactic(auto, using(crate::proofs::ArgumentSteps::comma_lighter), unfolding(ruby_meaning::specs::Grammar::Table::table))]
+    #[tactic(auto, unfolding(ruby_meaning::specs::Grammar::Table::table))]
     fn behind_comma(&self, cursor: &mut Cursor<'_>, args: Args, goes: Goes) -> Result<Step, Fail>
         ensures read { step.Commas self.now.takes_do goes (shown_args args) (ahead cursor.old) result (ahead cursor.new) }
         ensures lighter { step.Lighter (length (ahead cursor.old)) result (length (ahead cursor.new)) }
@@ -231,7 +229,7 @@ impl<F: Fn(Global, &mut Cursor<'_>, Part, u32) -> Result<Reading, Fail> + Copy> 
     }
 
     /// An argument behind those found, or the block pass that ends them.
-    #[tactic(auto, using(crate::proofs::ArgumentSteps::first_lighter), unfolding(ruby_meaning::specs::Grammar::Table::table, ruby_meaning::specs::Grammar::Expressions::block_argument))]
+    #[tactic(auto, unfolding(ruby_meaning::specs::Grammar::Table::table, ruby_meaning::specs::Grammar::Expressions::block_argument))]
     fn argument_step(
         &self,
         cursor: &mut Cursor<'_>,
@@ -291,16 +289,17 @@ impl<F: Fn(Global, &mut Cursor<'_>, Part, u32) -> Result<Reading, Fail> + Copy> 
     }
 
     /// Arguments and pairs from a step on.
+    #[tactic(auto, using(crate::proofs::ArgumentSteps::weight_somewhere, crate::proofs::ArgumentSteps::gone_on))]
     fn arguments_behind(
         &self,
         cursor: &mut Cursor<'_>,
         blocks: bool,
-        step: Step,
+        first: Step,
     ) -> Result<Args, Fail>
         requires below { Nests self.now.depth (F.pre self.now.names) (F.post self.now.names) }
-        ensures { GivesArgs (step.go_on self.now.takes_do self.now.in_rescue blocks (suc self.now.depth) step.goes (shown_args step.args) (ahead cursor.old)) result (ahead cursor.new) }
+        ensures { GivesArgs (step.go_on self.now.takes_do self.now.in_rescue blocks (suc self.now.depth) first.goes (shown_args first.args) (ahead cursor.old)) result (ahead cursor.new) }
     {
-        let Step { mut args, mut goes } = step;
+        let Step { mut args, mut goes } = first;
         'steps: while goes_somewhere(goes) {
             let next = self.next_step(cursor, blocks, args, goes)?;
             args = next.args;
@@ -316,8 +315,8 @@ impl<F: Fn(Global, &mut Cursor<'_>, Part, u32) -> Result<Reading, Fail> + Copy> 
         ensures { GivesArgs (read_named table (suc self.now.depth) (part (p.Arguments blocks) self.now.takes_do self.now.in_rescue) (ahead cursor.old)) result (ahead cursor.new) }
     {
         let none = Args::new(self.alloc);
-        let step = self.argument_step(cursor, blocks, false, none)?;
-        self.arguments_behind(cursor, blocks, step)
+        let first = self.argument_step(cursor, blocks, false, none)?;
+        self.arguments_behind(cursor, blocks, first)
     }
 
     /// `cargs`
@@ -327,8 +326,8 @@ impl<F: Fn(Global, &mut Cursor<'_>, Part, u32) -> Result<Reading, Fail> + Copy> 
         ensures { GivesArgs (read_named table (suc self.now.depth) (part (p.CommandArguments blocks) self.now.takes_do self.now.in_rescue) (ahead cursor.old)) result (ahead cursor.new) }
     {
         let none = Args::new(self.alloc);
-        let step = self.argument_step(cursor, blocks, true, none)?;
-        self.arguments_behind(cursor, blocks, step)
+        let first = self.argument_step(cursor, blocks, true, none)?;
+        self.arguments_behind(cursor, blocks, first)
     }
 
     /// Arguments behind a pair.
@@ -338,8 +337,8 @@ impl<F: Fn(Global, &mut Cursor<'_>, Part, u32) -> Result<Reading, Fail> + Copy> 
         ensures { GivesArgs (read_named table (suc self.now.depth) (part (p.MorePairs blocks) self.now.takes_do self.now.in_rescue) (ahead cursor.old)) result (ahead cursor.new) }
     {
         let none = Args::new(self.alloc);
-        let step = self.pair_step(cursor, blocks, none)?;
-        self.arguments_behind(cursor, blocks, step)
+        let first = self.pair_step(cursor, blocks, none)?;
+        self.arguments_behind(cursor, blocks, first)
     }
 
     /// A command or an argument.

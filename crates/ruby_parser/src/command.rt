@@ -1,9 +1,8 @@
 //! Commands: a name, `super` or `yield` with arguments that stand in no brackets.
 
-ghost use Rattle.std.specs.Prelude.{◌≡◌, is_some, suc, true};
+ghost use Rattle.std.specs.Prelude.{◌≡◌, is_some, suc, true, None};
 ghost use Rattle.ruby_meaning.specs.Grammar.Actions as act;
 ghost use Rattle.ruby_meaning.specs.Grammar.Expressions as g;
-ghost use Rattle.descent.specs.Gives.{Gives};
 ghost use Rattle.grammar.specs.FormReaders.{next_in};
 ghost use Rattle.ruby_meaning.specs.Grammar.Table.{begins_command};
 ghost use Rattle.ruby_parser.specs.Ahead.{ahead, class_code, Makes, MakesAs};
@@ -18,12 +17,12 @@ use crate::assignment::Right;
 use crate::cursor::Cursor;
 use crate::hash::{first_span, items_of};
 use crate::lists::last_span;
-use descent::Fail;
 use crate::making::{ascii, fits, node, nodes, to_end};
 use crate::names::Parser;
 use crate::passed::{Passed, has_pass, parts_of};
 use crate::value::{Reading, Value, Written};
-use opal_base::{Pos, Span};
+use descent::Fail;
+use opal_base::{Pos, Span, Units};
 use ruby_meaning::{Kind, Literal, Mark, Node, Nodes, Part, Sign, Word};
 use sqlite_items::Boxed;
 use std::alloc::Global;
@@ -97,7 +96,9 @@ fn is_call(kind: &Kind) -> bool
 {
     match kind {
         Kind::Call {
-            args, block: None, ..
+            args,
+            block: None,
+            ..
         } => args.is_empty(),
         Kind::Lit(Literal::BlockGiven) | Kind::Reraise => true,
         Kind::Super {
@@ -166,6 +167,7 @@ fn marked_place(command: &Command) -> Option<Pos>
     }
 }
 
+#[tactic(auto, using(crate::proofs::Pairs::values_of))]
 fn args_span(span: Span, args: &Args) -> Span
     ensures { result ≡ act.args_span span (shown_args args.now) }
 {
@@ -207,44 +209,69 @@ fn beside_block(alloc: Global, args: Args, block: Option<Node>) -> Result<Passed
     }
 }
 
+fn call_of(
+    alloc: Global,
+    receiver: Option<Boxed<Node>>,
+    name: Units,
+    passed: Passed,
+    marked: Option<Pos>,
+) -> Result<Kind, Fail>
+    ensures { Makes (spec.call_of receiver name (shown_passed passed) marked) result }
+{
+    let Passed { items, pass } = passed;
+    Ok(Kind::Call {
+        receiver,
+        name,
+        args: items,
+        block: boxed(alloc, pass)?,
+        marked,
+    })
+}
+
+fn super_of(alloc: Global, passed: Passed) -> Result<Kind, Fail>
+    ensures { Makes (spec.super_of (shown_passed passed)) result }
+{
+    let Passed { items, pass } = passed;
+    Ok(Kind::Super {
+        args: Some(items),
+        block: boxed(alloc, pass)?,
+    })
+}
+
+/// The call of a method that has no receiver and whose name is told by the form.
+fn named_call(alloc: Global, name: &[u8], passed: Passed, marked: Option<Pos>) -> Result<Kind, Fail>
+    ensures { Makes (spec.call_of None name.now (shown_passed passed) marked) result }
+{
+    let name = ascii(alloc, name)?;
+    call_of(alloc, None, name, passed, marked)
+}
+
 /// The call or `super` that a command is.
-fn command_kind(alloc: Global, callee: Kind, passed: Passed, marked: Option<Pos>) -> Result<Kind, Fail>
+fn command_kind(
+    alloc: Global,
+    callee: Kind,
+    passed: Passed,
+    marked: Option<Pos>,
+) -> Result<Kind, Fail>
     requires { spec.is_call callee ≡ true }
     ensures { Makes (spec.command_kind callee (shown_passed passed) marked) result }
 {
-    let Passed { items, pass } = passed;
-    let block = boxed(alloc, pass)?;
     match callee {
-        Kind::Call { receiver, name, .. } => Ok(Kind::Call {
-            receiver,
-            name,
-            args: items,
-            block,
-            marked,
-        }),
-        Kind::Lit(_) => Ok(Kind::Call {
-            receiver: None,
-            name: ascii(alloc, b"block_given?")?,
-            args: items,
-            block,
-            marked,
-        }),
-        Kind::Reraise => Ok(Kind::Call {
-            receiver: None,
-            name: ascii(alloc, b"raise")?,
-            args: items,
-            block,
-            marked,
-        }),
-        _ => Ok(Kind::Super {
-            args: Some(items),
-            block,
-        }),
+        Kind::Call { receiver, name, .. } => call_of(alloc, receiver, name, passed, marked),
+        Kind::Lit(_) => named_call(alloc, b"block_given?", passed, marked),
+        Kind::Reraise => named_call(alloc, b"raise", passed, marked),
+        Kind::Super { .. } => super_of(alloc, passed),
+        other => Ok(other),
     }
 }
 
 /// A callee with the arguments of a command.
-fn commanded(alloc: Global, callee: Value, command: Command, block: Option<Node>) -> Result<Value, Fail>
+fn commanded(
+    alloc: Global,
+    callee: Value,
+    command: Command,
+    block: Option<Node>,
+) -> Result<Value, Fail>
     requires { is_some (act.callee (shown_value callee)) ≡ true }
     ensures { MakesAs shown_value (spec.command_value (shown_value callee) (spec.shown_command command) block) result }
 {
@@ -275,7 +302,11 @@ fn yielded(alloc: Global, callee: Value, command: Command) -> Result<Value, Fail
 impl<F: Fn(Global, &mut Cursor<'_>, Part, u32) -> Result<Reading, Fail> + Copy> Parser<F> {
     /// The arguments of a command, one level below.
     #[tactic(auto, using(crate::proofs::CommandBegins::marked_begins, crate::proofs::CommandBegins::plain_begins), unfolding(ruby_meaning::specs::Grammar::Table::table, ruby_meaning::specs::Grammar::Expressions::command_arguments))]
-    fn command_arguments_below(&self, cursor: &mut Cursor<'_>, blocks: bool) -> Result<Command, Fail>
+    fn command_arguments_below(
+        &self,
+        cursor: &mut Cursor<'_>,
+        blocks: bool,
+    ) -> Result<Command, Fail>
         requires below { Nests self.now.depth (F.pre self.now.names) (F.post self.now.names) }
         ensures { Reads spec.shown_command (g.command_arguments self.now.takes_do self.now.in_rescue blocks) self.now.depth cursor.old result cursor.new }
     {

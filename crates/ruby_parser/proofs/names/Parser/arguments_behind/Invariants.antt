@@ -6,7 +6,7 @@ use Rattle.ruby_parser.proofs.names.Parser.arguments_behind.Given as goal
 
 abbrev pub invariant-steps : goal.invariant-steps
 invariant-steps g l =
-    go_on l.self.takes_do l.self.in_rescue l.fn.blocks (suc l.self.depth) l.fn.step.goes (shown_args l.fn.step.args) (ahead l.fn.cursor)
+    go_on l.self.takes_do l.self.in_rescue l.fn.blocks (suc l.self.depth) l.fn.first.goes (shown_args l.fn.first.args) (ahead l.fn.cursor)
     ≡ go_on l.self.takes_do l.self.in_rescue l.fn.blocks (suc l.self.depth) l.goes (shown_args l.args) (ahead l.cursor)
 
 abbrev pub decreases-steps : goal.decreases-steps
