@@ -1,14 +1,14 @@
 -- Arguments one after the other.
-use Rattle.std.proofs.Common.{◌≡◌, ℕ, ◌≤◌, Bool, true, false, ◌&&◌, ◌++◌, List, [], ◌∷◌, Option, Some, None, Result, Ok, Err, refl, sym, ap, ◌∙◌, append_assoc, append-nil, arith, true≢false}
-use Rattle.std.specs.Prelude.{not, nat_le, nat_eq, if◌then◌else◌}
-use Rattle.grammar.specs.FormReaders.{and_then, next_in, read_token, read_choice, read_view, read_sequence, read_absent, read_one_suffix}
+use Rattle.std.proofs.Common.{◌≡◌, ℕ, ◌≤◌, Bool, true, false, ◌&&◌, ◌++◌, List, [], Option, Some, None, Result, Ok, Err, refl, sym, ap, ◌∙◌, append_assoc, append-nil, arith, true≢false}
+use Rattle.std.specs.Prelude.{not, nat_le, if◌then◌else◌}
+use Rattle.grammar.specs.FormReaders.{and_then, next_in, read_token, read_choice, read_view, read_sequence, read_absent}
 use Rattle.grammar.specs.Readers.{read_named, read_rule}
 use Rattle.grammar.specs.Spelling.{token_in}
 use Rattle.grammar.specs.Rules.{deep, tree, marked}
-use Rattle.grammar.proofs.Loops.{and_then_assoc, and_then_same}
+use Rattle.grammar.proofs.Loops.{and_then_assoc}
 use Rattle.grammar.proofs.Stability.{read_named_is}
 use Rattle.grammar.specs.Checks.{Checks}
-use Rattle.ruby_parser.proofs.Within.{within}
+use Rattle.grammar.proofs.RuleReads.{value_within}
 use Rattle.ruby_meaning.specs.declared.production.Production.TheVariants as p
 use Rattle.ruby_meaning.specs.declared.token.Mark.TheVariants as mark
 use Rattle.ruby_meaning.specs.Depth.{depth_of}
@@ -22,7 +22,7 @@ use Rattle.ruby_meaning.specs.Grammar.Table.{table, begins_argument}
 use Rattle.ruby_meaning.proofs.Grammar.Checks.{c_arguments, c_cargs, c_pairs}
 use Rattle.ruby_meaning.proofs.Grammar.TableMeets.{predictive}
 use Rattle.ruby_parser.specs.Ahead.{class_code}
-use Rattle.ruby_parser.specs.Arguments.{Outcome, pair_rule, pairs_from, pairs_step, arguments_from, first_step, sees_block, block_from, sees_comma, ends_here, behind_comma, behind_first, first_rule}
+use Rattle.ruby_parser.specs.Arguments.{Outcome, pair_rule, pairs_from, pairs_step, arguments_from, first_step, sees_comma, ends_here, behind_comma, behind_first, first_rule}
 
 or_else_assoc : {A : Type 0} (a b c : Option A) → act.or_else (act.or_else a b) c ≡ act.or_else a (act.or_else b c)
 or_else_assoc (Some x) b c = refl
@@ -124,7 +124,7 @@ module _ (r : Bool) (b : ℕ) where
   unfolding table
   pair_kept d blocks checks found ts =
       and_then_assoc (pair_read d ts) _ _
-      ∙ chained (pair_read d ts) _ _ (λ x rest e. suffix_kept d r blocks b (pairs_read d blocks) found x (act.has_pair x) (nat_le (args_deep x) b) rest (most (args_deep x) b (within table predictive (pair_rule d r) checks b ts x rest e)))
+      ∙ chained (pair_read d ts) _ _ (λ x rest e. suffix_kept d r blocks b (pairs_read d blocks) found x (act.has_pair x) (nat_le (args_deep x) b) rest (most (args_deep x) b (value_within table predictive (pair_rule d r) checks b ts x rest e)))
 
   -- pairs behind those found, one step at a time
   pub pairs_step_is : (d blocks : Bool) (found : act.Args) (ts : List Seen) → pairs_from d r blocks b found ts ≡ pairs_step d r blocks b found ts
@@ -227,7 +227,7 @@ module _ (r : Bool) (b : ℕ) where
       ap (λ o. keep found (unwritten o)) (and_then_assoc (first_read d value ts) _ _)
       ∙ ap (keep found) (and_then_assoc (first_read d value ts) _ _)
       ∙ and_then_assoc (first_read d value ts) _ _
-      ∙ chained (first_read d value ts) _ _ (λ x rest e. first_kept d r blocks b (more_read d blocks) (pairs_read r b d blocks) found x rest (most _ b (within table predictive (first_rule d r value) checks b ts x rest e)))
+      ∙ chained (first_read d value ts) _ _ (λ x rest e. first_kept d r blocks b (more_read d blocks) (pairs_read r b d blocks) found x rest (most _ b (value_within table predictive (first_rule d r value) checks b ts x rest e)))
 
   -- arguments behind those found, one step at a time
   pub arguments_step_is : (d blocks : Bool) (found : act.Args) (ts : List Seen) → arguments_from d r blocks b found ts ≡ first_step d r blocks b (argument d r) found ts

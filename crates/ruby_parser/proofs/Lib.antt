@@ -3,7 +3,6 @@ pub mod Plain
 pub mod Progress
 pub mod Named
 pub mod Levels
-pub mod Within
 pub mod Below
 pub mod ArgumentsRead
 pub mod Pairs

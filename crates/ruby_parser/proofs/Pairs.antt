@@ -1,5 +1,5 @@
 -- Pairs as two lists.
-use Rattle.std.proofs.Common.{◌≡◌, ℕ, suc, ◌<◌, Bool, true, false, ◌&&◌, List, [], ◌∷◌, ◌++◌, Option, Some, None, length, refl, ap, arith}
+use Rattle.std.proofs.Common.{◌≡◌, ◌&&◌, List, [], ◌∷◌, ◌++◌, Option, Some, None, length, refl, ap, arith}
 use Rattle.ruby_meaning.specs.declared.tree.Node.{Node}
 use Rattle.ruby_meaning.specs.Grammar.Actions as act
 use Rattle.std.specs.Prelude.{not}

@@ -1,23 +1,22 @@
 -- Arguments step by step.
-use Rattle.std.proofs.Common.{◌≡◌, ℕ, ◌+◌, ◌≤◌, ◌<◌, Bool, true, false, ◌&&◌, List, [], ◌∷◌, ◌++◌, length, Result, Ok, Err, refl, sym, ap, ◌∙◌, arith, length-append}
-use Rattle.std.specs.Prelude.{not, if◌then◌else◌}
-use Rattle.grammar.specs.Checks.{Checks, Predictive}
-use Rattle.grammar.specs.FormReaders.{and_then, next_in, read_token}
+use Rattle.std.proofs.Common.{◌≡◌, ℕ, Bool, true, false, ◌&&◌, List, Result, Ok, Err, refl, sym, ◌∙◌}
+use Rattle.std.specs.Prelude.{if◌then◌else◌}
+use Rattle.grammar.specs.FormReaders.{and_then, read_token}
 use Rattle.grammar.specs.Readers.{read_named, read_rule}
-use Rattle.grammar.specs.Rules.{El, tree, marked}
+use Rattle.grammar.specs.Rules.{tree, marked}
 use Rattle.grammar.specs.Spelling.{token_in}
-use Rattle.grammar.proofs.Loops.{and_then_assoc, and_then_same}
+use Rattle.grammar.proofs.Loops.{and_then_same}
 use Rattle.ruby_meaning.specs.declared.token.Mark.TheVariants as mark
 use Rattle.ruby_meaning.specs.Grammar.Actions as act
 use Rattle.ruby_meaning.specs.Grammar.Classes.{op}
 use Rattle.ruby_meaning.specs.Grammar.Expressions.{argument, commanding}
 use Rattle.ruby_meaning.specs.Grammar.Names.{R}
 use Rattle.ruby_meaning.specs.Grammar.Seen.{Seen}
-use Rattle.ruby_meaning.specs.Grammar.Table.{table, begins_argument}
+use Rattle.ruby_meaning.specs.Grammar.Table.{table}
 use Rattle.ruby_parser.specs.declared.arguments.Goes.{Goes}
 use Rattle.ruby_parser.specs.declared.arguments.Goes.TheVariants as goes
 use Rattle.ruby_parser.specs.Ahead.{class_code}
-use Rattle.ruby_parser.specs.Arguments.{Outcome, first_rule, pair_rule, sees_block, sees_comma, ends_here, block_from, arguments_from, pairs_from, behind_comma, behind_first, first_step, pairs_step}
+use Rattle.ruby_parser.specs.Arguments.{Outcome, first_rule, pair_rule, sees_block, sees_comma, ends_here, block_from, arguments_from, pairs_from, behind_comma, behind_first, first_step}
 use Rattle.ruby_parser.specs.ArgumentSteps.{goes_on, comma_step, behind_first_comma, go_on, pair_goes, argument_step, pair_step, value_rule}
 use Rattle.ruby_parser.proofs.ArgumentsRead.{arguments_step_is, command_step_is, pairs_step_is, command_from}
 

@@ -1,5 +1,5 @@
 -- Arguments that stand first, and the steps from one to the next.
-use Rattle.std.specs.Prelude.{◌≡◌, ℕ, ◌+◌, ◌*◌, ◌<◌, Bool, true, false, not, ◌&&◌, if◌then◌else◌, List, Result, Ok, Err}
+use Rattle.std.specs.Prelude.{◌≡◌, ℕ, suc, ◌≤◌, Bool, true, false, not, ◌&&◌, if◌then◌else◌, List, Result, Ok, Err}
 use Rattle.grammar.specs.CommonRules.{behind}
 use Rattle.grammar.specs.FormReaders.{and_then, next_in, read_token}
 use Rattle.grammar.specs.Readers.{read_named, read_rule}
@@ -74,13 +74,20 @@ Steps d r blocks levels outcome (Ok s) rest = outcome ≡ go_on d r blocks level
 Steps d r blocks levels outcome (Err NoMemory) rest = Unit {0}
 Steps d r blocks levels outcome (Err Refused) rest = outcome ≡ Err rest
 
-abbrev pub weight : Goes → ℕ → ℕ
-weight goes.Nowhere n = 2 * n
-weight g n = 2 * n + 1
+abbrev pub goes_somewhere : Goes → Bool
+goes_somewhere goes.Nowhere = false
+goes_somewhere goes.Arguments = true
+goes_somewhere goes.Pairs = true
 
--- with a step there are fewer tokens left, or it is the last
+-- what is left to be read: nothing where nothing goes on
+abbrev pub weight : Goes → ℕ → ℕ
+weight goes.Nowhere n = 0
+weight goes.Arguments n = suc n
+weight goes.Pairs n = suc n
+
+-- There are fewer tokens left with a step, or it is the last.
 abbrev pub Lighter : ℕ → Result Step Fail → ℕ → Type 0
-Lighter n (Ok s) m = weight s.goes m < 2 * n + 1
+Lighter n (Ok s) m = weight s.goes m ≤ n
 Lighter n (Err f) m = Unit {0}
 
 -- an argument behind those found, as a step

@@ -1,5 +1,5 @@
 -- Arguments behind those found.
-use Rattle.std.specs.Prelude.{ℕ, Bool, true, false, not, ◌&&◌, if◌then◌else◌, List, Result, Ok}
+use Rattle.std.specs.Prelude.{ℕ, Bool, true, not, ◌&&◌, if◌then◌else◌, List, Result, Ok}
 use Rattle.grammar.specs.CommonRules.{◌or◌, behind}
 use Rattle.grammar.specs.FormReaders.{and_then, next_in, read_token}
 use Rattle.grammar.specs.Readers.{read_named, read_rule}

@@ -2,8 +2,8 @@
 
 ghost use Rattle.std.specs.Prelude.{◌≡◌, [], Some, length};
 
-use descent::Fail;
 use crate::nodes::{has_items, has_one, is_none, or_else};
+use descent::Fail;
 use ruby_meaning::{Node, Nodes};
 use sqlite_items::Items;
 use std::alloc::Global;

@@ -1,23 +1,26 @@
 //! Arguments and pairs.
 
-ghost use Rattle.std.specs.Prelude.{◌≡◌, ◌∷◌, [], suc, length, Some};
-ghost use Rattle.ruby_meaning.specs.Grammar.Actions as act;
+ghost use Rattle.std.specs.Prelude.{◌≡◌, suc, length};
 ghost use Rattle.ruby_meaning.specs.Grammar.Expressions as g;
-ghost use Rattle.descent.specs.Gives.{Gives};
-ghost use Rattle.ruby_parser.specs.Ahead.{ahead, see, MakesAs};
+ghost use Rattle.ruby_meaning.specs.Grammar.Names.{part};
+ghost use Rattle.ruby_meaning.specs.Grammar.Table.{table};
+ghost use Rattle.ruby_meaning.specs.declared.production.Production.TheVariants as p;
+ghost use Rattle.grammar.specs.Readers.{read_named};
+ghost use Rattle.ruby_parser.specs.Ahead.{ahead};
 ghost use Rattle.ruby_parser.specs.Arguments as spec;
 ghost use Rattle.ruby_parser.specs.ArgumentSteps as step;
 ghost use Rattle.ruby_parser.specs.declared.arguments.Goes.TheVariants as goes;
-ghost use Rattle.ruby_parser.specs.Named.{GivesArgs, GivesValue, Nests, Reads, ReadsNode, ReadsValue};
-ghost use Rattle.ruby_parser.specs.Shown.{shown_args, shown_value};
+ghost use Rattle.ruby_parser.specs.Named.{GivesArgs, Nests, Reads, ReadsValue};
+ghost use Rattle.ruby_parser.specs.Shown.{shown_args};
 
 use crate::args::Args;
+use crate::assignment::Right;
 use crate::begins::{STARS, begins_argument};
 use crate::cursor::Cursor;
-use descent::Fail;
 use crate::making::{fits, from_token, node, start};
 use crate::names::{Parser, Tree};
 use crate::value::{Reading, Value, Written};
+use descent::Fail;
 use ruby_meaning::{Kind, Mark, Node, Part, Sign};
 use sqlite_items::Boxed;
 use std::alloc::Global;
@@ -87,6 +90,15 @@ fn pair_goes(args: &Args) -> Goes
         Goes::Pairs
     } else {
         Goes::Nowhere
+    }
+}
+
+fn goes_somewhere(goes: Goes) -> bool
+    ensures { result ≡ step.goes_somewhere goes }
+{
+    match goes {
+        Goes::Nowhere => false,
+        Goes::Arguments | Goes::Pairs => true,
     }
 }
 
@@ -203,9 +215,10 @@ impl<F: Fn(Global, &mut Cursor<'_>, Part, u32) -> Result<Reading, Fail> + Copy> 
     /// A comma, if one stands behind an argument that takes more.
     #[tactic(auto, unfolding(ruby_meaning::specs::Grammar::Table::table))]
     fn behind_comma(&self, cursor: &mut Cursor<'_>, args: Args, goes: Goes) -> Result<Step, Fail>
-        ensures { step.Commas self.now.takes_do goes (shown_args args) (ahead cursor.old) result (ahead cursor.new) }
+        ensures read { step.Commas self.now.takes_do goes (shown_args args) (ahead cursor.old) result (ahead cursor.new) }
+        ensures lighter { step.Lighter (length (ahead cursor.old)) result (length (ahead cursor.new)) }
     {
-        if goes == Goes::Nowhere || !cursor.sees(Sign::Op(Mark::Comma)) {
+        if !goes_somewhere(goes) || !cursor.sees(Sign::Op(Mark::Comma)) {
             return Ok(Step::nowhere(args));
         }
         cursor.take(Sign::Op(Mark::Comma))?;
@@ -225,7 +238,8 @@ impl<F: Fn(Global, &mut Cursor<'_>, Part, u32) -> Result<Reading, Fail> + Copy> 
         found: Args,
     ) -> Result<Step, Fail>
         requires below { Nests self.now.depth (F.pre self.now.names) (F.post self.now.names) }
-        ensures { step.Steps self.now.takes_do self.now.in_rescue blocks (suc self.now.depth) (step.argument_step self.now.takes_do self.now.in_rescue blocks (suc self.now.depth) (step.value_rule command self.now.takes_do self.now.in_rescue) (shown_args found) (ahead cursor.old)) result (ahead cursor.new) }
+        ensures read { step.Steps self.now.takes_do self.now.in_rescue blocks (suc self.now.depth) (step.argument_step self.now.takes_do self.now.in_rescue blocks (suc self.now.depth) (step.value_rule command self.now.takes_do self.now.in_rescue) (shown_args found) (ahead cursor.old)) result (ahead cursor.new) }
+        ensures lighter { step.Lighter (length (ahead cursor.old)) result (length (ahead cursor.new)) }
     {
         if blocks && cursor.sees_one_of(&AMPERSANDS) {
             let block = self.block_argument(cursor)?;
@@ -238,10 +252,11 @@ impl<F: Fn(Global, &mut Cursor<'_>, Part, u32) -> Result<Reading, Fail> + Copy> 
     }
 
     /// A pair behind those found, or the block pass that ends them.
-    #[tactic(auto, unfolding(ruby_meaning::specs::Grammar::Table::table, ruby_meaning::specs::Grammar::Expressions::block_argument))]
+    #[tactic(auto, using(crate::proofs::ArgumentSteps::pair_lighter), unfolding(ruby_meaning::specs::Grammar::Table::table, ruby_meaning::specs::Grammar::Expressions::block_argument))]
     fn pair_step(&self, cursor: &mut Cursor<'_>, blocks: bool, found: Args) -> Result<Step, Fail>
         requires below { Nests self.now.depth (F.pre self.now.names) (F.post self.now.names) }
-        ensures { step.Steps self.now.takes_do self.now.in_rescue blocks (suc self.now.depth) (step.pair_step self.now.takes_do self.now.in_rescue blocks (suc self.now.depth) (shown_args found) (ahead cursor.old)) result (ahead cursor.new) }
+        ensures read { step.Steps self.now.takes_do self.now.in_rescue blocks (suc self.now.depth) (step.pair_step self.now.takes_do self.now.in_rescue blocks (suc self.now.depth) (shown_args found) (ahead cursor.old)) result (ahead cursor.new) }
+        ensures lighter { step.Lighter (length (ahead cursor.old)) result (length (ahead cursor.new)) }
     {
         if blocks && cursor.sees_one_of(&AMPERSANDS) {
             let block = self.block_argument(cursor)?;
@@ -253,10 +268,85 @@ impl<F: Fn(Global, &mut Cursor<'_>, Part, u32) -> Result<Reading, Fail> + Copy> 
         self.behind_comma(cursor, args, goes)
     }
 
+    /// What stands where arguments go on.
+    #[tactic(auto, using(crate::proofs::StepsOn::arguments_on, crate::proofs::StepsOn::pairs_on))]
+    fn next_step(
+        &self,
+        cursor: &mut Cursor<'_>,
+        blocks: bool,
+        found: Args,
+        goes: Goes,
+    ) -> Result<Step, Fail>
+        requires below { Nests self.now.depth (F.pre self.now.names) (F.post self.now.names) }
+        ensures read { step.Steps self.now.takes_do self.now.in_rescue blocks (suc self.now.depth) (step.go_on self.now.takes_do self.now.in_rescue blocks (suc self.now.depth) goes (shown_args found) (ahead cursor.old)) result (ahead cursor.new) }
+        ensures lighter { step.Lighter (length (ahead cursor.old)) result (length (ahead cursor.new)) }
+    {
+        match goes {
+            Goes::Nowhere => Ok(Step::nowhere(found)),
+            Goes::Arguments => self.argument_step(cursor, blocks, false, found),
+            Goes::Pairs => self.pair_step(cursor, blocks, found),
+        }
+    }
+
+    /// Arguments and pairs from a step on.
+    #[tactic(auto, using(crate::proofs::ArgumentSteps::weight_somewhere, crate::proofs::ArgumentSteps::gone_on))]
+    fn arguments_behind(
+        &self,
+        cursor: &mut Cursor<'_>,
+        blocks: bool,
+        first: Step,
+    ) -> Result<Args, Fail>
+        requires below { Nests self.now.depth (F.pre self.now.names) (F.post self.now.names) }
+        ensures { GivesArgs (step.go_on self.now.takes_do self.now.in_rescue blocks (suc self.now.depth) first.goes (shown_args first.args) (ahead cursor.old)) result (ahead cursor.new) }
+    {
+        let Step { mut args, mut goes } = first;
+        'steps: while goes_somewhere(goes) {
+            let next = self.next_step(cursor, blocks, args, goes)?;
+            args = next.args;
+            goes = next.goes;
+        }
+        Ok(args)
+    }
+
+    /// `arguments`
+    #[tactic(auto, using(crate::proofs::ArgumentSteps::arguments_are))]
+    pub fn arguments(&self, cursor: &mut Cursor<'_>, blocks: bool) -> Result<Args, Fail>
+        requires below { Nests self.now.depth (F.pre self.now.names) (F.post self.now.names) }
+        ensures { GivesArgs (read_named table (suc self.now.depth) (part (p.Arguments blocks) self.now.takes_do self.now.in_rescue) (ahead cursor.old)) result (ahead cursor.new) }
+    {
+        let none = Args::new(self.alloc);
+        let first = self.argument_step(cursor, blocks, false, none)?;
+        self.arguments_behind(cursor, blocks, first)
+    }
+
+    /// `cargs`
+    #[tactic(auto, using(crate::proofs::ArgumentSteps::command_is))]
+    pub fn arguments_of_command(&self, cursor: &mut Cursor<'_>, blocks: bool) -> Result<Args, Fail>
+        requires below { Nests self.now.depth (F.pre self.now.names) (F.post self.now.names) }
+        ensures { GivesArgs (read_named table (suc self.now.depth) (part (p.CommandArguments blocks) self.now.takes_do self.now.in_rescue) (ahead cursor.old)) result (ahead cursor.new) }
+    {
+        let none = Args::new(self.alloc);
+        let first = self.argument_step(cursor, blocks, true, none)?;
+        self.arguments_behind(cursor, blocks, first)
+    }
+
+    /// Arguments behind a pair.
+    #[tactic(auto, using(crate::proofs::ArgumentSteps::pairs_are))]
+    pub fn pairs(&self, cursor: &mut Cursor<'_>, blocks: bool) -> Result<Args, Fail>
+        requires below { Nests self.now.depth (F.pre self.now.names) (F.post self.now.names) }
+        ensures { GivesArgs (read_named table (suc self.now.depth) (part (p.MorePairs blocks) self.now.takes_do self.now.in_rescue) (ahead cursor.old)) result (ahead cursor.new) }
+    {
+        let none = Args::new(self.alloc);
+        let first = self.pair_step(cursor, blocks, none)?;
+        self.arguments_behind(cursor, blocks, first)
+    }
+
+    /// A command or an argument.
+    #[tactic(auto, unfolding(ruby_meaning::specs::Grammar::Table::table, ruby_meaning::specs::Grammar::Expressions::argument))]
     fn command(&self, cursor: &mut Cursor<'_>) -> Result<Value, Fail>
         requires below { Nests self.now.depth (F.pre self.now.names) (F.post self.now.names) }
         ensures { ReadsValue (g.commanding self.now.takes_do self.now.in_rescue (g.argument self.now.takes_do self.now.in_rescue)) (suc self.now.depth) cursor.old result cursor.new }
     {
-        Err(Fail::NoMemory)
+        self.commanding(cursor, Right::Argument, Right::Argument)
     }
 }

@@ -196,7 +196,7 @@ impl<F: Fn(Global, &mut Cursor<'_>, Part, u32) -> Result<Reading, Fail> + Copy> 
 
     /// A block from `do` to `end` one level below.
     #[tactic(auto, using(crate::proofs::Named::nests_below, crate::proofs::Levels::node_none, crate::proofs::Below::one_below), unfolding(ruby_meaning::specs::Grammar::Table::table, ruby_meaning::specs::Grammar::Calls::do_block))]
-    fn do_below(&self, cursor: &mut Cursor<'_>) -> Result<Node, Fail>
+    pub fn do_below(&self, cursor: &mut Cursor<'_>) -> Result<Node, Fail>
         requires below { Nests self.now.depth (F.pre self.now.names) (F.post self.now.names) }
         ensures { ReadsNode (g.do_block self.now.in_rescue) self.now.depth cursor.old result cursor.new }
     {

@@ -1,26 +1,28 @@
 //! Commands: a name, `super` or `yield` with arguments that stand in no brackets.
 
-ghost use Rattle.std.specs.Prelude.{◌≡◌, is_some, suc, true};
+ghost use Rattle.std.specs.Prelude.{◌≡◌, is_some, suc, true, None};
 ghost use Rattle.ruby_meaning.specs.Grammar.Actions as act;
 ghost use Rattle.ruby_meaning.specs.Grammar.Expressions as g;
-ghost use Rattle.descent.specs.Gives.{Gives};
-ghost use Rattle.ruby_parser.specs.Ahead.{ahead, Makes, MakesAs};
+ghost use Rattle.grammar.specs.FormReaders.{next_in};
+ghost use Rattle.ruby_meaning.specs.Grammar.Table.{begins_command};
+ghost use Rattle.ruby_parser.specs.Ahead.{ahead, class_code, Makes, MakesAs};
+ghost use Rattle.ruby_parser.specs.Assignments.{right_rule};
 ghost use Rattle.ruby_parser.specs.Commands as spec;
 ghost use Rattle.ruby_parser.specs.Named.{GivesValue, Nests, Reads, ReadsValue};
 ghost use Rattle.ruby_parser.specs.PassedArguments.{shown_passed};
 ghost use Rattle.ruby_parser.specs.Shown.{shown_args, shown_value, written_code};
 
 use crate::args::Args;
-use crate::begins::begins_argument;
+use crate::assignment::Right;
 use crate::cursor::Cursor;
 use crate::hash::{first_span, items_of};
 use crate::lists::last_span;
-use descent::Fail;
 use crate::making::{ascii, fits, node, nodes, to_end};
 use crate::names::Parser;
-use crate::passed::{Passed, parts_of};
+use crate::passed::{Passed, has_pass, parts_of};
 use crate::value::{Reading, Value, Written};
-use opal_base::{Pos, Span};
+use descent::Fail;
+use opal_base::{Pos, Span, Units};
 use ruby_meaning::{Kind, Literal, Mark, Node, Nodes, Part, Sign, Word};
 use sqlite_items::Boxed;
 use std::alloc::Global;
@@ -73,13 +75,30 @@ pub struct Command {
     pub marked: bool,
 }
 
+/// The arguments of a command, and a `do` block behind them.
+#[derive(Drop)]
+pub struct CommandPart {
+    pub command: Command,
+    pub block: Option<Node>,
+}
+
+/// Whether the arguments of a command begin here.
+#[tactic(auto, using(crate::proofs::Next::next_or))]
+fn begins_command(cursor: &Cursor<'_>) -> bool
+    ensures { result ≡ next_in (λ t. begins_command (class_code t)) (ahead cursor.now) }
+{
+    cursor.sees_one_of(&MARKED) || cursor.sees_one_of(&PLAIN)
+}
+
 /// Whether the form of a node is a call without arguments and block.
 fn is_call(kind: &Kind) -> bool
     ensures { result ≡ spec.is_call kind.now }
 {
     match kind {
         Kind::Call {
-            args, block: None, ..
+            args,
+            block: None,
+            ..
         } => args.is_empty(),
         Kind::Lit(Literal::BlockGiven) | Kind::Reraise => true,
         Kind::Super {
@@ -148,6 +167,7 @@ fn marked_place(command: &Command) -> Option<Pos>
     }
 }
 
+#[tactic(auto, using(crate::proofs::Pairs::values_of))]
 fn args_span(span: Span, args: &Args) -> Span
     ensures { result ≡ act.args_span span (shown_args args.now) }
 {
@@ -189,44 +209,69 @@ fn beside_block(alloc: Global, args: Args, block: Option<Node>) -> Result<Passed
     }
 }
 
+fn call_of(
+    alloc: Global,
+    receiver: Option<Boxed<Node>>,
+    name: Units,
+    passed: Passed,
+    marked: Option<Pos>,
+) -> Result<Kind, Fail>
+    ensures { Makes (spec.call_of receiver name (shown_passed passed) marked) result }
+{
+    let Passed { items, pass } = passed;
+    Ok(Kind::Call {
+        receiver,
+        name,
+        args: items,
+        block: boxed(alloc, pass)?,
+        marked,
+    })
+}
+
+fn super_of(alloc: Global, passed: Passed) -> Result<Kind, Fail>
+    ensures { Makes (spec.super_of (shown_passed passed)) result }
+{
+    let Passed { items, pass } = passed;
+    Ok(Kind::Super {
+        args: Some(items),
+        block: boxed(alloc, pass)?,
+    })
+}
+
+/// The call of a method that has no receiver and whose name is told by the form.
+fn named_call(alloc: Global, name: &[u8], passed: Passed, marked: Option<Pos>) -> Result<Kind, Fail>
+    ensures { Makes (spec.call_of None name.now (shown_passed passed) marked) result }
+{
+    let name = ascii(alloc, name)?;
+    call_of(alloc, None, name, passed, marked)
+}
+
 /// The call or `super` that a command is.
-fn command_kind(alloc: Global, callee: Kind, passed: Passed, marked: Option<Pos>) -> Result<Kind, Fail>
+fn command_kind(
+    alloc: Global,
+    callee: Kind,
+    passed: Passed,
+    marked: Option<Pos>,
+) -> Result<Kind, Fail>
     requires { spec.is_call callee ≡ true }
     ensures { Makes (spec.command_kind callee (shown_passed passed) marked) result }
 {
-    let Passed { items, pass } = passed;
-    let block = boxed(alloc, pass)?;
     match callee {
-        Kind::Call { receiver, name, .. } => Ok(Kind::Call {
-            receiver,
-            name,
-            args: items,
-            block,
-            marked,
-        }),
-        Kind::Lit(_) => Ok(Kind::Call {
-            receiver: None,
-            name: ascii(alloc, b"block_given?")?,
-            args: items,
-            block,
-            marked,
-        }),
-        Kind::Reraise => Ok(Kind::Call {
-            receiver: None,
-            name: ascii(alloc, b"raise")?,
-            args: items,
-            block,
-            marked,
-        }),
-        _ => Ok(Kind::Super {
-            args: Some(items),
-            block,
-        }),
+        Kind::Call { receiver, name, .. } => call_of(alloc, receiver, name, passed, marked),
+        Kind::Lit(_) => named_call(alloc, b"block_given?", passed, marked),
+        Kind::Reraise => named_call(alloc, b"raise", passed, marked),
+        Kind::Super { .. } => super_of(alloc, passed),
+        other => Ok(other),
     }
 }
 
 /// A callee with the arguments of a command.
-fn commanded(alloc: Global, callee: Value, command: Command, block: Option<Node>) -> Result<Value, Fail>
+fn commanded(
+    alloc: Global,
+    callee: Value,
+    command: Command,
+    block: Option<Node>,
+) -> Result<Value, Fail>
     requires { is_some (act.callee (shown_value callee)) ≡ true }
     ensures { MakesAs shown_value (spec.command_value (shown_value callee) (spec.shown_command command) block) result }
 {
@@ -257,7 +302,11 @@ fn yielded(alloc: Global, callee: Value, command: Command) -> Result<Value, Fail
 impl<F: Fn(Global, &mut Cursor<'_>, Part, u32) -> Result<Reading, Fail> + Copy> Parser<F> {
     /// The arguments of a command, one level below.
     #[tactic(auto, using(crate::proofs::CommandBegins::marked_begins, crate::proofs::CommandBegins::plain_begins), unfolding(ruby_meaning::specs::Grammar::Table::table, ruby_meaning::specs::Grammar::Expressions::command_arguments))]
-    fn command_arguments_below(&self, cursor: &mut Cursor<'_>, blocks: bool) -> Result<Command, Fail>
+    fn command_arguments_below(
+        &self,
+        cursor: &mut Cursor<'_>,
+        blocks: bool,
+    ) -> Result<Command, Fail>
         requires below { Nests self.now.depth (F.pre self.now.names) (F.post self.now.names) }
         ensures { Reads spec.shown_command (g.command_arguments self.now.takes_do self.now.in_rescue blocks) self.now.depth cursor.old result cursor.new }
     {
@@ -273,5 +322,70 @@ impl<F: Fn(Global, &mut Cursor<'_>, Part, u32) -> Result<Reading, Fail> + Copy> 
             args,
             marked: false,
         })
+    }
+
+    /// A `do` block behind arguments, where one may be taken and no block pass stands there.
+    #[tactic(auto, unfolding(ruby_meaning::specs::Grammar::Table::table, ruby_meaning::specs::Grammar::Calls::do_block, ruby_meaning::specs::Grammar::Calls::do_parts))]
+    fn do_beside(&self, cursor: &mut Cursor<'_>, passes: bool) -> Result<Option<Node>, Fail>
+        requires below { Nests self.now.depth (F.pre self.now.names) (F.post self.now.names) }
+        ensures { Reads (λ n. n) (spec.do_beside self.now.takes_do self.now.in_rescue passes) self.now.depth cursor.old result cursor.new }
+    {
+        if !self.takes_do || passes || !cursor.sees(Sign::Keyword(Word::Do)) {
+            return Ok(None);
+        }
+        Ok(Some(self.do_below(cursor)?))
+    }
+
+    /// The arguments of a command and a `do` block, one level below.
+    #[tactic(auto, unfolding(ruby_meaning::specs::Grammar::Table::table, ruby_meaning::specs::Grammar::Expressions::command_part))]
+    fn command_part(&self, cursor: &mut Cursor<'_>) -> Result<CommandPart, Fail>
+        requires below { Nests self.now.depth (F.pre self.now.names) (F.post self.now.names) }
+        ensures { Reads spec.shown_part (g.command_part self.now.takes_do self.now.in_rescue) self.now.depth cursor.old result cursor.new }
+    {
+        let command = self.command_arguments_below(cursor, true)?;
+        let block = self.do_beside(cursor, has_pass(&command.args))?;
+        Ok(CommandPart { command, block })
+    }
+
+    /// The arguments of a command behind what takes them.
+    #[tactic(auto, using(crate::proofs::CommandBegins::command_seen), unfolding(ruby_meaning::specs::Grammar::Table::table))]
+    fn command_behind(&self, cursor: &mut Cursor<'_>, callee: Value) -> Result<Value, Fail>
+        requires below { Nests self.now.depth (F.pre self.now.names) (F.post self.now.names) }
+        ensures { GivesValue (spec.command_behind self.now.takes_do self.now.in_rescue self.now.depth (shown_value callee) (ahead cursor.old)) result (ahead cursor.new) }
+    {
+        if !begins_command(cursor) || !is_callee(&callee) || !fits(&callee.node, self.depth + 1) {
+            return Ok(callee);
+        }
+        let CommandPart { command, block } = self.command_part(cursor)?;
+        commanded(self.alloc, callee, command, block)
+    }
+
+    /// The arguments of a command behind `yield`.
+    #[tactic(auto, using(crate::proofs::CommandBegins::yield_seen), unfolding(ruby_meaning::specs::Grammar::Table::table))]
+    fn yield_behind(&self, cursor: &mut Cursor<'_>, callee: Value) -> Result<Value, Fail>
+        requires below { Nests self.now.depth (F.pre self.now.names) (F.post self.now.names) }
+        ensures { GivesValue (spec.yield_behind self.now.takes_do self.now.in_rescue self.now.depth (shown_value callee) (ahead cursor.old)) result (ahead cursor.new) }
+    {
+        if !begins_command(cursor) || !yields(&callee) || !fits(&callee.node, self.depth + 1) {
+            return Ok(callee);
+        }
+        let command = self.command_arguments_below(cursor, false)?;
+        yielded(self.alloc, callee, command)
+    }
+
+    /// A command, an assignment, or a value that stands without them.
+    #[tactic(auto, unfolding(ruby_meaning::specs::Grammar::Table::table))]
+    pub fn commanding(
+        &self,
+        cursor: &mut Cursor<'_>,
+        value: Right,
+        updated: Right,
+    ) -> Result<Value, Fail>
+        requires below { Nests self.now.depth (F.pre self.now.names) (F.post self.now.names) }
+        ensures { ReadsValue (g.commanding self.now.takes_do self.now.in_rescue (g.assignment self.now.takes_do self.now.in_rescue (right_rule value self.now.takes_do self.now.in_rescue) (right_rule updated self.now.takes_do self.now.in_rescue))) (suc self.now.depth) cursor.old result cursor.new }
+    {
+        let callee = self.assignment(cursor, value, updated)?;
+        let callee = self.command_behind(cursor, callee)?;
+        self.yield_behind(cursor, callee)
     }
 }

@@ -7,9 +7,9 @@ ghost use Rattle.ruby_parser.specs.Nodes as spec;
 ghost use Rattle.ruby_parser.specs.Shown.{pairs_of, shown_args};
 
 use crate::args::Args;
-use descent::Fail;
 use crate::lists::last_span;
 use crate::making::{node, to_end};
+use descent::Fail;
 use opal_base::Span;
 use ruby_meaning::{Kind, Nodes};
 use sqlite_items::Items;

@@ -10,12 +10,12 @@ ghost use Rattle.ruby_parser.specs.Named.{ReadsToken};
 ghost use Rattle.ruby_parser.specs.Shown.{shown_args};
 ghost use Rattle.ruby_parser.specs.PassedArguments.{is_no_args, shown_passed};
 
-use crate::cursor::{Cursor, Sight};
-use descent::Fail;
 use crate::args::Args;
+use crate::cursor::{Cursor, Sight};
 use crate::hash::arguments_of;
 use crate::nodes::{has_items, is_none};
 use crate::parameters::skip;
+use descent::Fail;
 use opal_base::{Names, Units};
 use ruby_meaning::{Node, Nodes, Params, Rest, Sign, Slots};
 use std::alloc::Global;
