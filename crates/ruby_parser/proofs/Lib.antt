@@ -21,3 +21,7 @@ pub mod LiteralLists
 pub mod CallLevels
 pub mod PartTurns
 pub mod CommandBegins
+pub mod JumpBegins
+pub mod StatementLists
+pub mod TargetLevels
+pub mod TargetTurns
