@@ -23,5 +23,7 @@ pub mod PartTurns
 pub mod CommandBegins
 pub mod JumpBegins
 pub mod StatementLists
+pub mod OneLevel
 pub mod TargetLevels
+pub mod TargetNodes
 pub mod TargetTurns

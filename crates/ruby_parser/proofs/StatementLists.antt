@@ -1,11 +1,14 @@
 -- Lines of statements, read in a loop.
 use Rattle.std.proofs.Common.{◌≡◌, ℕ, zero, suc, Bool, true, false, List, [], ◌∷◌, ◌++◌, Option, Some, None, Result, Ok, Err, refl, sym, ap, ◌∙◌, append_assoc, append-nil}
-use Rattle.std.specs.Prelude.{if◌then◌else◌}
+use Rattle.std.specs.Prelude.{◌||◌, if◌then◌else◌}
 use Rattle.grammar.specs.FormReaders.{and_then, next_in, read_many}
 use Rattle.ruby_meaning.specs.declared.tree.Node.{Node}
+use Rattle.ruby_meaning.specs.declared.token.Word.TheVariants as word
 use Rattle.ruby_meaning.specs.Grammar.Actions as act
+use Rattle.ruby_meaning.specs.Grammar.Classes.{key}
 use Rattle.ruby_meaning.specs.Grammar.Seen.{Seen}
-use Rattle.ruby_parser.specs.StatementValues.{read_lines_from, with_line}
+use Rattle.ruby_parser.specs.Ahead.{class_code}
+use Rattle.ruby_parser.specs.StatementValues.{read_lines_from, with_line, begins_modifier}
 
 abbrev Lines : Type 0
 Lines = Result (List (Option Node) × List Seen) (List Seen)
@@ -41,3 +44,8 @@ lines_from_is first p (suc n) found ts = by (λ a r. lines_from_is first p n (wi
 pub first_line : (o : Option Node) (os : List (Option Node)) → with_line [] o ++ act.statements os ≡ act.statements (o ∷ os)
 first_line None os = refl
 first_line (Some n) os = refl
+
+pub modifier_seen : (ts : List Seen) → next_in begins_modifier ts
+    ≡ (next_in (λ t. key word.If (class_code t)) ts || (next_in (λ t. key word.Unless (class_code t)) ts || (next_in (λ t. key word.While (class_code t)) ts || next_in (λ t. key word.Until (class_code t)) ts)))
+modifier_seen [] = refl
+modifier_seen (t ∷ ts) = refl

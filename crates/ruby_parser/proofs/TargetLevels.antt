@@ -1,22 +1,21 @@
 -- Targets where no level is left.
-use Rattle.std.proofs.Common.{◌≡◌, ℕ, zero, suc, ◌≤◌, ◌<◌, Bool, true, false, List, [], ◌∷◌, ◌++◌, Result, Ok, Err, refl, sym, ap, subst, ◌∙◌, arith}
-use Rattle.std.specs.Prelude.{nat_eq, nat_le, if◌then◌else◌}
+use Rattle.std.proofs.Common.{◌≡◌, ℕ, zero, suc, ◌≤◌, Bool, true, false, List, [], ◌∷◌, ◌++◌, Result, Ok, Err, refl, sym, ap, ◌∙◌, arith}
+use Rattle.std.specs.Prelude.{if◌then◌else◌}
 use Rattle.std.proofs.lemmas.Bool.Decides.{nat_tests}
-use Rattle.grammar.specs.Checks.{Checks, first, nullable}
-use Rattle.grammar.specs.FormReaders.{and_then, next_in, read_needs}
+use Rattle.grammar.specs.Checks.{Checks, first}
+use Rattle.grammar.specs.FormReaders.{and_then, next_in}
 use Rattle.grammar.specs.Readers.{read_named, read_rule}
-use Rattle.grammar.specs.Rules.{El, marked, tree}
 use Rattle.grammar.specs.Spelling.{Spells, RuleFront, IsFront}
 use Rattle.grammar.proofs.RuleReads.{rule_reads, value_within}
 use Rattle.grammar.proofs.Stability.{read_named_is}
 use Rattle.ruby_meaning.specs.declared.production.Production.TheVariants as p
 use Rattle.ruby_meaning.specs.declared.token.Mark.TheVariants as mark
 use Rattle.ruby_meaning.specs.declared.tree.Node.{Node}
-use Rattle.ruby_meaning.specs.Depth.{depth_of, kind_depth}
+use Rattle.ruby_meaning.specs.Depth.{depth_of}
 use Rattle.ruby_meaning.specs.Grammar.Actions as act
 use Rattle.ruby_meaning.specs.Grammar.Classes.{op}
 use Rattle.ruby_meaning.specs.Grammar.Expressions as e
-use Rattle.ruby_meaning.specs.Grammar.Names.{R, part}
+use Rattle.ruby_meaning.specs.Grammar.Names.{part}
 use Rattle.ruby_meaning.specs.Grammar.Primaries.{post, prim, keyword_value, word_value, integer_value, text, ivar_value, gvar_value, top_constant, word_list, interpolated, parenthesized, array, hash_value, name_call, constant_value, super_value, yield_value, arrow_value}
 use Rattle.ruby_meaning.specs.Grammar.Definitions.{keyword_form, if_value, unless_value, while_value, until_value, case_value, class_value, module_value, def_value, begin_value, body_behind}
 use Rattle.ruby_meaning.specs.Grammar.Seen.{Seen}
@@ -28,17 +27,6 @@ use Rattle.ruby_meaning.proofs.Grammar.TableMeets.{predictive}
 use Rattle.ruby_parser.specs.declared.names.Tree.TheVariants as of_tree
 use Rattle.ruby_parser.specs.Ahead.{class_code}
 use Rattle.ruby_parser.specs.Named.{read_tree}
-
-pub needs_one : {T A : Type 0} (p : List T → Result (A × List T) (List T)) (n : ℕ) (ts : List T) → 0 < n → read_needs 1 n p ts ≡ p ts
-needs_one p zero ts h = absurd (omega (arith, h))
-needs_one p (suc n) ts h = ap (λ c. if c then p ts else Err ts) (by (suc n) h)
-  where
-    by : (m : ℕ) → 0 < m → nat_le 1 m ≡ true
-    by m h = grind (arith, nat_tests)
-
-pub needs_not_one : {T A : Type 0} (p : List T → Result (A × List T) (List T)) (n : ℕ) (ts : List T) → n ≡ 0 → read_needs 1 n p ts ≡ Err ts
-needs_not_one p zero ts h = refl
-needs_not_one p (suc n) ts h = absurd (omega (arith, h))
 
 abbrev O : Type 0 → Type 0
 O A = Result (A × List Seen) (List Seen)
@@ -58,6 +46,7 @@ module _ (r : Bool) where
   P ts = read_rule table (read_named table) (post r true) 0 ts
 
   never : (ts : List Seen) (a : Node × ℕ) (k : List Seen) → P ts ≡ Ok (a, k) → ⊥
+  unfolding depth_of table
   never ts a k e = no_less a.0 (value_within table predictive (post r true) checks_post 0 ts a k e)
 
   no_bang : first table (post r true) 63 ≡ false
@@ -106,9 +95,12 @@ module _ (r : Bool) where
   of_error (Ok y) k h = cc
   of_error (Err j) k h = let f : ◌≡◌ {A = O Node} (Err j) (Err k) = h in let l : j ≡ k = cc in ap Err l
 
+  abbrev placed : O (Node × ℕ) → O ((Node × ℕ) × ℕ)
+  placed o = and_then o (λ a rest. and_then (read_rule table (read_named table) (s.placed r (act.is_place a)) 0 rest) (λ c after. Ok ((a, c), after)))
+
   target_error : (ts k : List Seen) → P ts ≡ Err k → read_rule table (read_named table) (s.target r) 0 ts ≡ Err k
   unfolding s.target
-  target_error ts k e = ap (λ o. and_then (and_then o (λ a rest. and_then (read_rule table (read_named table) (s.placed r (act.is_place a)) 0 rest) (λ c after. Ok ((a, c), after)))) (λ x j. Ok (act.target_node x.0, j))) e
+  target_error ts k e = ap (λ o. seen_as (placed o) (λ x. act.target_node x.0)) e
 
   no_value : (o : O (Node × ℕ)) (x : Node) (ts k : List Seen) → P ts ≡ o → seen_as o (λ x. x.0) ≡ Ok (x, k) → ⊥
   no_value (Ok y) x ts k e h = never ts y.0 y.1 e

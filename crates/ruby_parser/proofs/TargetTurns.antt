@@ -1,5 +1,5 @@
 -- Targets, one after the other.
-use Rattle.std.proofs.Common.{◌≡◌, ℕ, suc, ◌≤◌, ◌<◌, Bool, true, false, List, [], ◌∷◌, ◌++◌, length, Result, Ok, Err, refl, sym, ap, ◌∙◌, append_assoc, append-nil, arith}
+use Rattle.std.proofs.Common.{◌≡◌, ℕ, suc, ◌≤◌, Bool, true, false, List, [], ◌∷◌, ◌++◌, length, Result, Ok, Err, refl, sym, ap, ◌∙◌, append_assoc, append-nil, arith}
 use Rattle.std.specs.Prelude.{if◌then◌else◌}
 use Rattle.grammar.specs.Checks.{Checks}
 use Rattle.grammar.specs.FormReaders.{and_then, read_token}
@@ -46,7 +46,7 @@ first_of_all n (Err y) = refl
 
 -- a target and what stands behind it
 one_behind : (starred : Bool) (o : O Node) (more : Bool → List Seen → Several)
-    → seen_as (seq o (more starred)) joined ≡ and_then (seen_as o (λ n. (n, starred))) (λ y k. before y.0 (more y.1 k))
+    → seen_as (seq o (more starred)) joined ≡ and_then {A = Node × Bool} (seen_as {B = Node × Bool} o (λ n. (n, starred))) (λ y k. before y.0 (more y.1 k))
 one_behind starred (Ok y) more = first_of_all y.0 (more starred y.1)
 one_behind starred (Err y) more = refl
 
@@ -130,7 +130,7 @@ module _ (r : Bool) (b : ℕ) where
   unfolding table s.behind_target
   more_behind starred ts h = if_true (sees_comma ts) _ _ h ∙ named_turn starred ts
 
-  value_behind : (starred : Bool) (ts : List Seen) → sees_comma ts ≡ false → Behind starred ts ≡ seen_as (Value ts) (λ n. ([], n))
+  value_behind : (starred : Bool) (ts : List Seen) → sees_comma ts ≡ false → Behind starred ts ≡ seen_as {B = List Node × Node} (Value ts) (λ n. ([], n))
   unfolding table s.behind_target
   value_behind starred ts h = if_false (sees_comma ts) _ _ h
 
@@ -144,11 +144,11 @@ module _ (r : Bool) (b : ℕ) where
   pub last_one : (total : Several) (seen : List Node) (starred : Bool) (ts k : List Seen) (y : Node × Bool) (n : Node) (j : List Seen) → total ≡ behind_found seen (More starred ts) → read_next r b starred ts ≡ Ok (y, k)
       → sees_comma k ≡ false → Value k ≡ Ok (n, j) → total ≡ Ok ((seen ++ y.0 ∷ [], n), j)
   last_one total seen starred ts k y n j whole e h v = turned total seen starred ts k y whole e
-      ∙ ap (behind_found (seen ++ y.0 ∷ [])) (value_behind y.1 k h ∙ ap (λ o. seen_as o (λ n. ([], n))) v) ∙ last_value (seen ++ y.0 ∷ []) n j
+      ∙ ap (behind_found (seen ++ y.0 ∷ [])) (value_behind y.1 k h ∙ ap (λ o. seen_as {B = List Node × Node} o (λ n. ([], n))) v) ∙ last_value (seen ++ y.0 ∷ []) n j
 
   pub value_refused : (total : Several) (seen : List Node) (starred : Bool) (ts k : List Seen) (y : Node × Bool) (j : List Seen) → total ≡ behind_found seen (More starred ts) → read_next r b starred ts ≡ Ok (y, k)
       → sees_comma k ≡ false → Value k ≡ Err j → total ≡ Err j
-  value_refused total seen starred ts k y j whole e h v = turned total seen starred ts k y whole e ∙ ap (behind_found (seen ++ y.0 ∷ [])) (value_behind y.1 k h ∙ ap (λ o. seen_as o (λ n. ([], n))) v)
+  value_refused total seen starred ts k y j whole e h v = turned total seen starred ts k y whole e ∙ ap (behind_found (seen ++ y.0 ∷ [])) (value_behind y.1 k h ∙ ap (λ o. seen_as {B = List Node × Node} o (λ n. ([], n))) v)
 
   pub next_refused : (total : Several) (seen : List Node) (starred : Bool) (ts k : List Seen) → total ≡ behind_found seen (More starred ts) → read_next r b starred ts ≡ Err k → total ≡ Err k
   next_refused total seen starred ts k whole e = whole ∙ ap (behind_found seen) (turn starred ts ∙ ap (λ o. and_then o go) e)
@@ -186,11 +186,11 @@ module _ (r : Bool) (b : ℕ) where
   short_if false x y n h w = w
 
   short_plain : (starred : Bool) (ts : List Seen) → Short (length ts) (read_plain r b starred ts)
-  short_plain starred ts = short_view (Target ts) (λ n. (n, starred)) (length ts) (left_of table predictive (s.target r) checks_target b ts)
+  short_plain starred ts = short_view {B = Node × Bool} (Target ts) (λ n. (n, starred)) (length ts) (left_of table predictive (s.target r) checks_target b ts)
 
   short_one : (starred : Bool) (ts : List Seen) → Short (length ts) (read_one r b starred ts)
   short_one true ts = short_if (sees_star ts) (read_starred r b ts) (read_plain r b true ts) (length ts)
-      (short_view (Starred ts) (λ n. (n, false)) (length ts) (left_of table predictive (s.star_target r) checks_star b ts)) (short_plain true ts)
+      (short_view {B = Node × Bool} (Starred ts) (λ n. (n, false)) (length ts) (left_of table predictive (s.star_target r) checks_star b ts)) (short_plain true ts)
   short_one false ts = short_plain false ts
 
   pub next_left : (starred : Bool) (ts k : List Seen) (y : Node × Bool) → read_next r b starred ts ≡ Ok (y, k) → suc (length k) ≤ length ts

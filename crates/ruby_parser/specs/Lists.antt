@@ -1,5 +1,5 @@
 -- Lists of values.
-use Rattle.std.specs.Prelude.{ℕ, Bool, List, [], ◌∷◌, Result}
+use Rattle.std.specs.Prelude.{ℕ, Bool, List, Result}
 use Rattle.grammar.specs.CommonRules.{behind}
 use Rattle.grammar.specs.FormReaders.{read_view}
 use Rattle.grammar.specs.Readers.{read_named, read_rule}

@@ -1,5 +1,5 @@
 -- Statements: the nodes that they make, and lists of them.
-use Rattle.std.specs.Prelude.{ℕ, zero, suc, Bool, false, if◌then◌else◌, List, [], ◌∷◌, ◌++◌, map, Option, Some, None, Result, Ok, Err, nat_le}
+use Rattle.std.specs.Prelude.{ℕ, zero, suc, Bool, false, ◌||◌, if◌then◌else◌, List, [], ◌∷◌, ◌++◌, map, Option, Some, None, Result, Ok, nat_le}
 use Rattle.grammar.specs.Checks.{first}
 use Rattle.grammar.specs.CommonRules.{behind, separated}
 use Rattle.grammar.specs.FormReaders.{and_then, next_in, read_more_suffixes}
@@ -24,7 +24,7 @@ use Rattle.ruby_parser.specs.declared.definitions.MethodName.{MethodName}
 use Rattle.ruby_parser.specs.declared.statements.Behind.{Behind}
 use Rattle.ruby_parser.specs.declared.statements.Behind.TheVariants as by
 use Rattle.ruby_parser.specs.declared.statements.Modifier.{Modifier}
-use Rattle.ruby_parser.specs.Ahead.{see}
+use Rattle.ruby_parser.specs.Ahead.{class_code, see}
 use Rattle.ruby_parser.specs.Definitions.{shown_method}
 use Rattle.ruby_parser.specs.Named.{many_from}
 
@@ -55,6 +55,9 @@ if_kind cond first second = kind.If cond first second
 
 abbrev pub while_kind : Node → Node → Bool → Kind
 while_kind cond body body_first = kind.While cond body body_first
+
+abbrev pub begins_modifier : Seen → Bool
+begins_modifier t = key word.If (class_code t) || (key word.Unless (class_code t) || (key word.While (class_code t) || key word.Until (class_code t)))
 
 abbrev pub behind_code : Behind → ℕ
 behind_code by.If = act.if_behind

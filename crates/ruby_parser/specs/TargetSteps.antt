@@ -1,5 +1,5 @@
 -- Targets, one after the other.
-use Rattle.std.specs.Prelude.{ℕ, Bool, true, false, if◌then◌else◌, List, [], ◌∷◌, ◌++◌, Option, Some, None, Result, Ok, Err}
+use Rattle.std.specs.Prelude.{ℕ, Bool, true, false, if◌then◌else◌, List, ◌++◌, Option, Some, Result, Ok}
 use Rattle.grammar.specs.CommonRules.{behind}
 use Rattle.grammar.specs.FormReaders.{and_then, next_in, read_token, read_view}
 use Rattle.grammar.specs.Readers.{read_named, read_rule}

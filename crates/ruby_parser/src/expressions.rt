@@ -7,12 +7,12 @@ ghost use Rattle.ruby_parser.specs.Named.{Nests, ReadsValue};
 
 use crate::assignment::Right;
 use crate::cursor::Cursor;
-use descent::Fail;
 use crate::jumps::JUMPS;
 use crate::making::{from_token, node, start};
 use crate::names::{Parser, Tree};
 use crate::operators::Joint;
 use crate::value::{Reading, Value, Written};
+use descent::Fail;
 use ruby_meaning::{Kind, Part, Sign, Word};
 use sqlite_items::Boxed;
 use std::alloc::Global;

@@ -12,13 +12,13 @@ ghost use Rattle.ruby_parser.specs.Shown.{shown_body, shown_value};
 use crate::begins::{MODIFIERS, STARS, begins_value};
 use crate::cursor::{Cursor, Sight};
 use crate::definitions::nothing;
-use descent::Fail;
 use crate::making::{fits, from_token, node, span_of, start};
 use crate::names::{Parser, Tree};
 use crate::value::{Body, Reading, Value, Written};
+use descent::Fail;
+use opal_base::Span;
 use ruby_meaning::{JumpKind, Kind, Mark, Node, Part, Sign, TokenKind, Word};
 use sqlite_items::Boxed;
-use opal_base::Span;
 use std::alloc::Global;
 
 pub const JUMPS: [Sign; 3] = [

@@ -10,10 +10,10 @@ ghost use Rattle.ruby_parser.specs.Named.{Nests, ReadsNode};
 
 use crate::begins::STARS;
 use crate::cursor::Cursor;
-use descent::Fail;
 use crate::making::{from_token, node, start, to_end};
 use crate::names::{Parser, Tree};
 use crate::value::Reading;
+use descent::Fail;
 use opal_base::Span;
 use ruby_meaning::{Kind, Mark, Node, Nodes, Part, Sign};
 use sqlite_items::{Boxed, Items};

@@ -8,10 +8,10 @@ ghost use Rattle.ruby_parser.specs.Named.{Nests, ReadsValue};
 use crate::assignment::Right;
 use crate::begins::STARS;
 use crate::cursor::Cursor;
-use descent::Fail;
 use crate::making::fits;
 use crate::names::Parser;
 use crate::value::{Reading, Value, Written};
+use descent::Fail;
 use ruby_meaning::{Mark, Part, Sign};
 use std::alloc::Global;
 

@@ -1,6 +1,7 @@
 //! Statements.
 
 ghost use Rattle.std.specs.Prelude.{◌≡◌, suc, length};
+ghost use Rattle.grammar.specs.FormReaders.{next_in};
 ghost use Rattle.ruby_meaning.specs.Grammar.Actions as act;
 ghost use Rattle.ruby_meaning.specs.Grammar.Statements as s;
 ghost use Rattle.descent.specs.Gives.{Gives};
@@ -11,16 +12,16 @@ ghost use Rattle.ruby_parser.specs.Shown.{shown_body, shown_value};
 ghost use Rattle.ruby_parser.specs.StatementValues as spec;
 
 use crate::assignment::is_place;
-use crate::begins::{MODIFIERS, begins_statement};
+use crate::begins::begins_statement;
 use crate::cursor::{Cursor, Sight};
 use crate::definitions::{MethodName, full_name, nothing};
-use descent::Fail;
 use crate::hash::first_span;
 use crate::lists::last_span;
 use crate::making::{fits, from_token, node, nodes, span_of, start, to_end, tokens};
 use crate::names::{Parser, Tree};
 use crate::targets::{multi_set, target_node};
 use crate::value::{Body, Reading, Value, Written};
+use descent::Fail;
 use opal_base::{Names, Span};
 use ruby_meaning::{Kind, Mark, Node, Nodes, Part, Sign, Word};
 use sqlite_items::{Boxed, Items};
@@ -178,6 +179,16 @@ fn until_condition(alloc: Global, sign: Sight<'_>, cond: Node) -> Result<Node, F
     Ok(node(alloc, kind, span, start(sign))?)
 }
 
+/// Whether a keyword stands here that goes behind a statement.
+#[tactic(auto, using(crate::proofs::StatementLists::modifier_seen))]
+fn sees_modifier(cursor: &Cursor<'_>) -> bool
+    ensures { result ≡ next_in spec.begins_modifier (ahead cursor.now) }
+{
+    cursor.sees(Sign::Keyword(Word::If))
+        || (cursor.sees(Sign::Keyword(Word::Unless))
+            || (cursor.sees(Sign::Keyword(Word::While)) || cursor.sees(Sign::Keyword(Word::Until))))
+}
+
 /// One node for statements.
 fn sequence_of(alloc: Global, found: Nodes) -> Result<Body, Fail>
     ensures { MakesAs shown_body (act.sequence_of found) result }
@@ -285,7 +296,10 @@ impl<F: Fn(Global, &mut Cursor<'_>, Part, u32) -> Result<Reading, Fail> + Copy> 
         ensures { ReadsValue (s.several_set self.now.in_rescue) (suc self.now.depth) cursor.old result cursor.new }
     {
         let left = self.with_do(true).expression(cursor)?;
-        if !cursor.sees(Sign::Op(Mark::Comma)) || !is_place(&left) || !fits(&left.node, self.depth) {
+        if !cursor.sees(Sign::Op(Mark::Comma))
+            || !is_place(&left)
+            || !fits(&left.node, self.depth)
+        {
             return Ok(left);
         }
         let first = target_node(self.alloc, left)?;
@@ -315,7 +329,7 @@ impl<F: Fn(Global, &mut Cursor<'_>, Part, u32) -> Result<Reading, Fail> + Copy> 
     }
 
     /// `"until" expr`
-    #[tactic(auto, using(crate::proofs::Named::nests_below, crate::proofs::Levels::node_some, crate::proofs::TargetLevels::needs_one, crate::proofs::TargetLevels::needs_not_one), unfolding(ruby_meaning::specs::Grammar::Table::table))]
+    #[tactic(auto, using(crate::proofs::Named::nests_below, crate::proofs::Levels::node_some, crate::proofs::OneLevel::needs_one, crate::proofs::OneLevel::needs_not_one), unfolding(ruby_meaning::specs::Grammar::Table::table))]
     fn until_modifier<'a>(&self, cursor: &mut Cursor<'a>) -> Result<Modifier<'a>, Fail>
         requires below { Nests self.now.depth (F.pre self.now.names) (F.post self.now.names) }
         ensures { Reads spec.shown_modifier (spec.until_modifier self.now.in_rescue) self.now.depth cursor.old result cursor.new }
@@ -371,30 +385,15 @@ impl<F: Fn(Global, &mut Cursor<'_>, Part, u32) -> Result<Reading, Fail> + Copy> 
         requires below { Nests self.now.depth (F.pre self.now.names) (F.post self.now.names) }
         ensures { GivesValue (spec.modifiers_from self.now.in_rescue self.now.depth (length (ahead cursor.old)) (shown_value first) (ahead cursor.old)) result (ahead cursor.new) }
     {
-        let Value {
-            node: mut left,
-            mut written,
-        } = first;
+        let mut value = first;
         for _turn in 0..cursor.left() {
-            if !cursor.sees_one_of(&MODIFIERS) || !fits(&left, self.depth) {
-                return Ok(Value {
-                    node: left,
-                    written,
-                });
+            if !sees_modifier(cursor) || !fits(&value.node, self.depth) {
+                return Ok(value);
             }
             let modifier = self.modifier(cursor)?;
-            let statement = Value {
-                node: left,
-                written,
-            };
-            let value = modified(self.alloc, statement, modifier)?;
-            left = value.node;
-            written = value.written;
+            value = modified(self.alloc, value, modifier)?;
         }
-        Ok(Value {
-            node: left,
-            written,
-        })
+        Ok(value)
     }
 
     /// A statement.

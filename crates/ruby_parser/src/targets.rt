@@ -1,6 +1,6 @@
 //! What several values are set to at once.
 
-ghost use Rattle.std.specs.Prelude.{◌≡◌, ◌∷◌, [], suc, true};
+ghost use Rattle.std.specs.Prelude.{◌≡◌, ◌∷◌, ◌++◌, [], suc, true};
 ghost use Rattle.ruby_meaning.specs.Grammar.Actions as act;
 ghost use Rattle.ruby_meaning.specs.Grammar.Statements as s;
 ghost use Rattle.descent.specs.Gives.{Gives};
@@ -12,10 +12,10 @@ ghost use Rattle.ruby_parser.specs.TargetSteps as spec;
 
 use crate::assignment::is_place;
 use crate::cursor::Cursor;
-use descent::Fail;
 use crate::making::{ascii, from_token, node, start, to_end};
 use crate::names::{Parser, Tree};
 use crate::value::{Reading, Value};
+use descent::Fail;
 use opal_base::Span;
 use ruby_meaning::{Kind, Mark, Node, Nodes, Part, Sign};
 use sqlite_items::{Boxed, Items};
@@ -64,6 +64,7 @@ fn target_kind(alloc: Global, kind: Kind) -> Result<Kind, Fail>
 }
 
 /// What can be set as a target.
+#[tactic(auto, using(crate::proofs::TargetNodes::target_is))]
 pub fn target_node(alloc: Global, value: Value) -> Result<Node, Fail>
     requires { act.is_place (shown_value value) ≡ true }
     ensures { Makes (act.target_node (shown_value value)) result }
@@ -84,6 +85,24 @@ pub fn multi_set(alloc: Global, first: Span, targets: Targets) -> Result<Node, F
         value: Boxed::new(alloc, targets.value)?,
     };
     Ok(node(alloc, kind, span, first.from)?)
+}
+
+/// A first target.
+fn alone(alloc: Global, target: Node) -> Result<Nodes, Fail>
+    ensures { Makes (target ∷ []) result }
+{
+    let mut found = Items::new(alloc);
+    found.push(target)?;
+    Ok(found)
+}
+
+/// One more target.
+fn with_target(found: Nodes, target: Node) -> Result<Nodes, Fail>
+    ensures { Makes (found ++ target ∷ []) result }
+{
+    let mut found = found;
+    found.push(target)?;
+    Ok(found)
 }
 
 impl<F: Fn(Global, &mut Cursor<'_>, Part, u32) -> Result<Reading, Fail> + Copy> Parser<F> {
@@ -184,16 +203,16 @@ impl<F: Fn(Global, &mut Cursor<'_>, Part, u32) -> Result<Reading, Fail> + Copy> 
         requires below { Nests self.now.depth (F.pre self.now.names) (F.post self.now.names) }
         ensures { Gives spec.shown_targets (spec.behind_found (first ∷ []) (spec.read_targets self.now.in_rescue self.now.depth starred (ahead cursor.old))) result (ahead cursor.new) }
     {
-        let mut all = Items::new(self.alloc);
-        all.push(first)?;
+        let start = alone(self.alloc, first)?;
+        let mut found = start;
         let mut starred = starred;
         for _turn in 0..cursor.left() {
-            let target = self.next_target(cursor, starred)?;
-            starred = target.starred;
-            all.push(target.node)?;
+            let one = self.next_target(cursor, starred)?;
+            starred = one.starred;
+            found = with_target(found, one.node)?;
             if !cursor.sees(Sign::Op(Mark::Comma)) {
                 let value = self.set_value(cursor)?;
-                return Ok(Targets { all, value });
+                return Ok(Targets { all: found, value });
             }
         }
         Err(Fail::Refused)

@@ -13,9 +13,9 @@ returns-in_err-line g c =
     let e = one_more (λ n. lines_from c.args.self.now.in_rescue c.args.self.now.depth n c.loop-turn.found (ahead c.loop-turn.cursor)) _ c.loop-turn._turn c.loop-turn-test.true c.loop-turn.invariant in
     first_of (search rules, grind (arith, common_steps))
 
-pub returns-then-not-sees : goal.returns-then-not-sees
+pub returns-then-not-sees_one_of : goal.returns-then-not-sees_one_of
 unfolding read_lines_from table s.line
-returns-then-not-sees g c =
+returns-then-not-sees_one_of g c =
     let e = one_more (λ n. lines_from c.args.self.now.in_rescue c.args.self.now.depth n c.loop-turn.found (ahead c.loop-turn.cursor)) _ c.loop-turn._turn c.loop-turn-test.true c.loop-turn.invariant in
     first_of (search rules, grind (arith, common_steps))
 

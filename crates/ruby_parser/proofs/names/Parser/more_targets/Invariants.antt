@@ -10,5 +10,5 @@ use Rattle.ruby_parser.proofs.names.Parser.more_targets.Given as goal
 abbrev pub invariant-loop-turn : goal.invariant-loop-turn
 invariant-loop-turn g l =
     (behind_found (l.fn.first ∷ []) (read_targets l.self.in_rescue l.self.depth l.fn.starred (ahead l.fn.cursor))
-    ≡ behind_found l.all (read_rule table (read_named table) (s.more_targets l.self.in_rescue l.starred) l.self.depth (ahead l.cursor))) ×
+    ≡ behind_found l.found (read_rule table (read_named table) (s.more_targets l.self.in_rescue l.starred) l.self.depth (ahead l.cursor))) ×
     (length (ahead l.cursor) ≤ l._turn-end - l._turn)
