@@ -237,6 +237,7 @@ impl<F: Fn(Global, &mut Cursor<'_>, Part, u32) -> Result<Reading, Fail> + Copy> 
         self.method_name(cursor)
     }
 
+    /// Names of methods that each stand behind a comma, behind those found.
     fn more_methods<'a>(
         &self,
         cursor: &mut Cursor<'a>,
