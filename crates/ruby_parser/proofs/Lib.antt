@@ -23,3 +23,9 @@ pub mod CommandBegins
 pub mod NoLevel
 pub mod Parts
 pub mod SightsRead
+pub mod JumpBegins
+pub mod StatementLists
+pub mod OneLevel
+pub mod TargetLevels
+pub mod TargetNodes
+pub mod TargetTurns

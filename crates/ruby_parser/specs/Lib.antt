@@ -18,3 +18,6 @@ pub mod CallParts
 pub mod PassedArguments
 pub mod CallValues
 pub mod PartsBehind
+pub mod JumpValues
+pub mod StatementValues
+pub mod TargetSteps

@@ -88,6 +88,12 @@ pub record Nests (depth : ℕ) (pre : Pre) (post : Post) : Type 0 where
   pub reads : (alloc : Global) (old new : MutBor Cursor) (k : Part) (levels : ℕ) (r : Result Reading Fail) → post alloc old k levels r new
       → GivesPart k (read_named table levels k (ahead old.now)) r (ahead new.now)
 
+-- The same of names one level below or deeper alone.
+pub record NestsBelow (depth : ℕ) (pre : Pre) (post : Post) : Type 0 where
+  pub callable : (alloc : Global) (old : MutBor Cursor) (k : Part) (levels : ℕ) → levels ≤ depth → is_read k.production ≡ true → pre alloc old k levels
+  pub reads : (alloc : Global) (old new : MutBor Cursor) (k : Part) (levels : ℕ) (r : Result Reading Fail) → post alloc old k levels r new
+      → GivesPart k (read_named table levels k (ahead old.now)) r (ahead new.now)
+
 abbrev pub production_of : Tree → Production
 production_of of_tree.Statement = p.Statement
 production_of of_tree.Expression = p.Expression

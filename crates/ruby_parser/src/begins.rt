@@ -55,6 +55,14 @@ const VALUES: [Sign; 42] = [
 
 pub const STARS: [Sign; 2] = [Sign::Op(Mark::Star), Sign::Marked(Mark::Star)];
 
+/// The keywords that stand behind a statement.
+pub const MODIFIERS: [Sign; 4] = [
+    Sign::Keyword(Word::If),
+    Sign::Keyword(Word::Unless),
+    Sign::Keyword(Word::While),
+    Sign::Keyword(Word::Until),
+];
+
 pub fn begins_value(cursor: &Cursor<'_>) -> bool
     ensures { result ≡ next_in (λ t. g.begins_value (class_code t)) (ahead cursor.now) }
 {
@@ -70,4 +78,25 @@ pub fn begins_argument(cursor: &Cursor<'_>) -> bool
         || cursor.sees(Sign::Label)
         || cursor.sees(Sign::Op(Mark::Ampersand))
         || cursor.sees(Sign::Marked(Mark::Ampersand))
+}
+
+#[tactic(auto, using(crate::proofs::Next::next_or))]
+fn begins_expression(cursor: &Cursor<'_>) -> bool
+    ensures { result ≡ next_in (λ t. g.begins_expression (class_code t)) (ahead cursor.now) }
+{
+    begins_value(cursor)
+        || cursor.sees(Sign::Keyword(Word::Not))
+        || cursor.sees(Sign::Keyword(Word::Return))
+        || cursor.sees(Sign::Keyword(Word::Break))
+        || cursor.sees(Sign::Keyword(Word::Next))
+}
+
+#[tactic(auto, using(crate::proofs::Next::next_or))]
+pub fn begins_statement(cursor: &Cursor<'_>) -> bool
+    ensures { result ≡ next_in (λ t. g.begins_statement (class_code t)) (ahead cursor.now) }
+{
+    begins_expression(cursor)
+        || cursor.sees(Sign::Keyword(Word::Alias))
+        || cursor.sees(Sign::Keyword(Word::Undef))
+        || cursor.sees(Sign::Op(Mark::Star))
 }

@@ -4,7 +4,7 @@ ghost use Rattle.std.specs.Prelude.{◌≡◌, ℕ, [], ◌∷◌, length, map, 
 ghost use Rattle.grammar.specs.FormReaders.{next_in, read_token};
 ghost use Rattle.grammar.specs.Spelling.{token_in};
 ghost use Rattle.ruby_meaning.specs.Grammar.Classes.{code_of};
-ghost use Rattle.descent.specs.Sets.{one_of};
+ghost use Rattle.descent.specs.Sets.{behind_open, one_of};
 ghost use Rattle.ruby_parser.specs.Ahead.{ahead, see, GivesToken, class_code, codes};
 
 use crate::class::class_of;
@@ -84,5 +84,17 @@ impl<'a> Cursor<'a> {
         let taken = *next;
         self.rest = &rest[1..];
         Ok(taken)
+    }
+
+    /// Passes a token of one of these classes, where one stands next.
+    pub fn pass_one_of(&mut self, signs: &[Sign])
+        ensures { ahead self.new ≡ behind_open class_code (one_of (codes signs.now)) (ahead self.old) }
+    {
+        let rest: &'a [Sight<'a>] = self.rest;
+        if let Some(next) = rest.first() {
+            if is_one_of(next.sign, signs) {
+                self.rest = &rest[1..];
+            }
+        }
     }
 }

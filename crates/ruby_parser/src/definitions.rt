@@ -236,7 +236,7 @@ pub struct DefRest<'a> {
 }
 
 /// No statement; the form that holds it sets its span.
-fn nothing(alloc: Global) -> Result<Body, Fail>
+pub fn nothing(alloc: Global) -> Result<Body, Fail>
     ensures { MakesAs shown_body (act.nothing, 1) result }
 {
     let place = Pos { line: 0, col: 0 };
@@ -570,7 +570,7 @@ fn module_node(
     })
 }
 
-fn full_name(alloc: Global, method: MethodName<'_>) -> Result<Units, Fail>
+pub fn full_name(alloc: Global, method: MethodName<'_>) -> Result<Units, Fail>
     ensures { Makes (act.full_name (spec.shown_method method.entry)) result }
 {
     let mut name = method_name(alloc, method.name)?;

@@ -1,23 +1,21 @@
-//! Lists of values, right sides and jumps.
+//! Lists of values.
 
-ghost use Rattle.std.specs.Prelude.{◌≡◌, suc, [], ◌∷◌, length, map};
+ghost use Rattle.std.specs.Prelude.{◌≡◌, suc, length};
 ghost use Rattle.ruby_meaning.specs.Grammar.Actions as act;
 ghost use Rattle.ruby_meaning.specs.Grammar.Expressions as g;
 ghost use Rattle.descent.specs.Gives.{Gives};
-ghost use Rattle.ruby_parser.specs.Ahead.{ahead, see, MakesAs};
+ghost use Rattle.ruby_parser.specs.Ahead.{ahead, GivesNode, MakesAs};
 ghost use Rattle.ruby_parser.specs.Lists as spec;
-ghost use Rattle.ruby_parser.specs.Named.{GivesValue, Nests, Reads, ReadsNode, ReadsValue};
-ghost use Rattle.ruby_parser.specs.Shown.{shown_value};
+ghost use Rattle.ruby_parser.specs.Named.{Nests, ReadsNode};
 
-use crate::assignment::Right;
 use crate::begins::STARS;
-use crate::cursor::{Cursor, Sight};
-use descent::Fail;
-use crate::making::{fits, from_token, node, span_of, start, to_end};
+use crate::cursor::Cursor;
+use crate::making::{from_token, node, start, to_end};
 use crate::names::{Parser, Tree};
-use crate::value::{Reading, Value, Written};
+use crate::value::Reading;
+use descent::Fail;
 use opal_base::Span;
-use ruby_meaning::{JumpKind, Kind, Mark, Node, Nodes, Part, Sign, TokenKind, Word};
+use ruby_meaning::{Kind, Mark, Node, Nodes, Part, Sign};
 use sqlite_items::{Boxed, Items};
 use std::alloc::Global;
 
@@ -104,5 +102,33 @@ impl<F: Fn(Global, &mut Cursor<'_>, Part, u32) -> Result<Reading, Fail> + Copy> 
             found.push(self.next_item(cursor)?)?;
         }
         Ok(found)
+    }
+
+    /// A list that begins with `*`.
+    #[tactic(auto, using(grammar::proofs::Loops::read_many_from_is), unfolding(ruby_meaning::specs::Grammar::Table::table, ruby_meaning::specs::Grammar::Expressions::splat_list, ruby_meaning::specs::Grammar::Expressions::more_items))]
+    pub fn splat_list(&self, cursor: &mut Cursor<'_>) -> Result<Node, Fail>
+        requires below { Nests self.now.depth (F.pre self.now.names) (F.post self.now.names) }
+        ensures { ReadsNode (g.splat_list self.now.takes_do self.now.in_rescue) (suc self.now.depth) cursor.old result cursor.new }
+    {
+        let first = self.splat_below(cursor)?;
+        let span = first.span;
+        let mut items = Items::new(self.alloc);
+        items.push(first)?;
+        let items = self.more_items(cursor, items)?;
+        array_of(self.alloc, items, span)
+    }
+
+    /// A list of which the first item was read.
+    #[tactic(auto, using(grammar::proofs::Loops::read_many_from_is), unfolding(ruby_meaning::specs::Grammar::Table::table, ruby_meaning::specs::Grammar::Expressions::other_items, ruby_meaning::specs::Grammar::Expressions::more_items))]
+    pub fn list_behind(&self, cursor: &mut Cursor<'_>, first: Node) -> Result<Node, Fail>
+        requires below { Nests self.now.depth (F.pre self.now.names) (F.post self.now.names) }
+        ensures { GivesNode (spec.list_behind self.now.takes_do self.now.in_rescue self.now.depth first (ahead cursor.old)) result (ahead cursor.new) }
+    {
+        let span = first.span;
+        let mut items = Items::new(self.alloc);
+        items.push(first)?;
+        items.push(self.next_item(cursor)?)?;
+        let items = self.more_items(cursor, items)?;
+        array_of(self.alloc, items, span)
     }
 }

@@ -7,7 +7,7 @@ ghost use Rattle.ruby_meaning.specs.Grammar.Names.{part};
 ghost use Rattle.ruby_meaning.specs.Grammar.Table.{table};
 ghost use Rattle.grammar.specs.Readers.{read_named};
 ghost use Rattle.ruby_parser.specs.Ahead.{ahead, GivesNode};
-ghost use Rattle.ruby_parser.specs.Named.{Nests, GivesBody, GivesValue, GivesArgs, GivesPart, is_read, production_of, read_plain, read_tree};
+ghost use Rattle.ruby_parser.specs.Named.{Nests, NestsBelow, GivesBody, GivesValue, GivesArgs, GivesPart, is_read, production_of, read_plain, read_tree};
 
 use crate::cursor::Cursor;
 use descent::Fail;
@@ -109,6 +109,22 @@ impl<F: Fn(Global, &mut Cursor<'_>, Part, u32) -> Result<Reading, Fail> + Copy> 
             Ok(Reading::Tree(node)) => Ok(node),
             Ok(_) => Err(Fail::Refused),
             Err(fail) => Err(fail),
+        }
+    }
+
+    /// A statement, one level below.
+    pub fn next_statement(&self, cursor: &mut Cursor<'_>) -> Result<Node, Fail>
+        requires below { NestsBelow self.now.depth (F.pre self.now.names) (F.post self.now.names) }
+        ensures { GivesNode (read_named table self.now.depth (part p.Statement true self.now.in_rescue) (ahead cursor.old)) result (ahead cursor.new) }
+    {
+        let part = Part {
+            production: Production::Statement,
+            takes_do: true,
+            in_rescue: self.in_rescue,
+        };
+        match (self.names)(self.alloc, cursor, part, self.depth)? {
+            Reading::Tree(node) => Ok(node),
+            _ => Err(Fail::Refused),
         }
     }
 

@@ -211,7 +211,7 @@ fn conditional(
 
 impl<F: Fn(Global, &mut Cursor<'_>, Part, u32) -> Result<Reading, Fail> + Copy> Parser<F> {
     /// Operators of a level and operands behind a value, to the left.
-    fn operators(
+    pub fn operators(
         &self,
         cursor: &mut Cursor<'_>,
         first: Value,
