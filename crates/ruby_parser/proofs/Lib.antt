@@ -1,6 +1,3 @@
-pub mod Cuts
-pub mod Plain
-pub mod Progress
 pub mod Named
 pub mod Levels
 pub mod Below

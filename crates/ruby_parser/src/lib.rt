@@ -13,7 +13,6 @@ mod definitions;
 mod expressions;
 mod hash;
 mod jumps;
-mod lines;
 mod lists;
 mod making;
 mod names;
@@ -30,4 +29,3 @@ mod targets;
 mod value;
 mod values;
 
-pub use lines::parse_lines;
