@@ -26,3 +26,9 @@ pub mod OneLevel
 pub mod TargetLevels
 pub mod TargetNodes
 pub mod TargetTurns
+pub mod Told
+pub mod Wholes
+pub mod Signs
+pub mod Constructs
+pub mod LastSign
+pub mod Turns

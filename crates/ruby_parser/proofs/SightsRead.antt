@@ -129,3 +129,14 @@ all_sights ts h =
     let cut : take (length ts - 1) ts ≡ h.front = ap (λ k. take k ts) n ∙ ap (take (length h.front)) h.split ∙ front_taken h.front h.eof in
     let back : before_end ts ≡ h.front = ap before_end h.split ∙ before_front h.front h.eof h.others h.last in
     ap (seen_behind []) (cut ∙ sym back)
+
+sights_count : (past ts : List Token) → length (seen_behind past ts) ≡ length ts
+sights_count past [] = refl
+sights_count past (t ∷ ts) = ap suc (sights_count (t ∷ past) ts)
+
+-- the end token stands behind all
+pub end_behind : (ts : List Token) → HasOneEof ts → length (sight ts) < length ts
+unfolding seen
+end_behind ts h =
+    let back : before_end ts ≡ h.front = ap before_end h.split ∙ before_front h.front h.eof h.others h.last in
+    omega (arith, sights_count [] (before_end ts), ap length back, ap length h.split ∙ length-append h.front (h.eof ∷ []))

@@ -21,3 +21,6 @@ pub mod PartsBehind
 pub mod JumpValues
 pub mod StatementValues
 pub mod TargetSteps
+pub mod Refusing
+pub mod Endings
+pub mod Answer

@@ -1,4 +1,4 @@
-//! From Ruby's text to its tree.
+//! From tokens to the program that they spell.
 #![tactic(auto)]
 
 mod args;
@@ -19,13 +19,18 @@ mod names;
 mod nodes;
 mod operators;
 mod parameters;
+mod parts;
+mod pass;
+mod passed;
 mod post;
 mod primary;
-mod sight;
-mod passed;
+mod read;
+mod refusal;
 mod sides;
+mod sight;
 mod statements;
 mod targets;
 mod value;
 mod values;
 
+pub use pass::parse;
