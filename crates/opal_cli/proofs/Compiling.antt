@@ -1,20 +1,22 @@
 -- What out took of a compiled script.
-use Rattle.std.proofs.Common.{◌≡◌, ℕ, ◌≤◌, List, [], length, take, Some, refl, sym, ap, ◌∙◌, subst, arith}
+use Rattle.std.proofs.Common.{◌≡◌, ℕ, List, [], Ok, Err, Result, IfOk, refl, sym, ap, ◌∙◌, subst, arith}
 use Rattle.std.specs.declared.option.Option.{Option}
 use Rattle.opal_base.specs.Outside.{FileMap, appended, TookFront}
-use Rattle.opal_base.proofs.Took.{appended_none, took_all}
-use Rattle.ruby_meaning.specs.declared.tree.Bundle.{Bundle}
+use Rattle.opal_base.proofs.Took.{appended_none}
+use Rattle.ruby_meaning.specs.declared.bundle.Bundle.{Bundle}
 use Rattle.ruby_meaning.specs.Load.{Loaded, Loads, Whole, Missing, Refused}
 use Rattle.ruby_meaning.specs.Laws.{OneLoad}
+use Rattle.es5_tree.specs.declared.small.Script.{Script}
 use Rattle.es5_tree.specs.Text.{text_of}
 use Rattle.es5_tree.specs.Spells.{EsSpells}
 use Rattle.opal_cli.specs.Agree.{Agree}
 use Rattle.opal_cli.specs.Translation.{script_of}
 use Rattle.opal_cli.specs.Ends.{End, Wrote, status_of, IsAnswer}
-use Rattle.opal_cli.specs.Loading.{FailsToLoad, end_of_fault}
-use Rattle.opal_cli.specs.declared.load.LoadFault.{LoadFault}
-use Rattle.opal_cli.specs.declared.load.LoadFault.TheVariants as fault
-use Rattle.opal_cli.specs.Answers.{CompileWith, text_of_load}
+use Rattle.require_bundles.specs.Loading.{FailsToLoad}
+use Rattle.opal_cli.specs.Loading.{end_of_fault}
+use Rattle.require_bundles.specs.declared.bundle.LoadFault.{LoadFault}
+use Rattle.require_bundles.specs.declared.bundle.LoadFault.TheVariants as fault
+use Rattle.opal_cli.specs.Answers.{LoadWith, output_of_load}
 use Rattle.opal_cli.specs.Headline.{Compiles}
 
 -- nothing is a front of every text
@@ -31,17 +33,22 @@ compiled map file bundle text old new loads is agrees spells took = record {
   agrees = agrees;
 }
 
--- a front of a written script is one of what the answer writes
-pub front_of_script : (map : FileMap) (file : List ℕ) (bundle : Bundle) (script : List ℕ) (loaded : Loaded) (old new : Option (List ℕ)) → OneLoad → Loads map file (Whole bundle) → script ≡ text_of (script_of bundle) → Loads map file loaded → TookFront old new script → TookFront old new (text_of_load loaded)
-front_of_script map file bundle script loaded old new one loads is others took = subst (TookFront old new) (is ∙ ap text_of_load (one map file (Whole bundle) loaded loads others)) took
+-- a front of what was written for a bundle is one of what the answer writes
+pub front_of_load : (f : Bundle → List ℕ) (map : FileMap) (file : List ℕ) (bundle : Bundle) (text : List ℕ) (loaded : Loaded) (old new : Option (List ℕ)) → OneLoad → Loads map file (Whole bundle) → text ≡ f bundle → Loads map file loaded → TookFront old new text → TookFront old new (output_of_load f loaded)
+front_of_load f map file bundle text loaded old new one loads is others took = subst (TookFront old new) (is ∙ ap (output_of_load f) (one map file (Whole bundle) loaded loads others)) took
 
--- the answer where the script was written
-pub written_answer : (map : FileMap) (file : List ℕ) (bundle : Bundle) (script : List ℕ) (old new : Option (List ℕ)) → Loads map file (Whole bundle) → script ≡ text_of (script_of bundle) → new ≡ appended old script → CompileWith map file Wrote old new
-written_answer map file bundle script old new loads is took = (text_of (script_of bundle), (Whole bundle, loads, refl, refl), took ∙ ap (appended old) is)
+-- the answer where all was written
+pub written_answer : (f : Bundle → List ℕ) (map : FileMap) (file : List ℕ) (bundle : Bundle) (text : List ℕ) (old new : Option (List ℕ)) → Loads map file (Whole bundle) → text ≡ f bundle → new ≡ appended old text → LoadWith f map file Wrote old new
+written_answer f map file bundle text old new loads is took = (f bundle, (Whole bundle, loads, refl, refl), took ∙ ap (appended old) is)
 
 -- the answer where the main file doesn't load
-pub unloaded_answer : (map : FileMap) (file : List ℕ) (f : LoadFault) (end : End) (told : Option (List ℕ)) → FailsToLoad map file f → end ≡ end_of_fault file f → IsAnswer (status_of end) → CompileWith map file end told told
-unloaded_answer map file fault.NoMemory end told loads is answer = absurd (subst (λ e. IsAnswer (status_of e)) is answer)
-unloaded_answer map file fault.ReadFault end told loads is answer = absurd (subst (λ e. IsAnswer (status_of e)) is answer)
-unloaded_answer map file fault.Missing end told loads is answer = ([], (Missing file, loads, is, refl), sym (appended_none told))
-unloaded_answer map file (fault.Refused pos construct) end told loads is answer = ([], (Refused file pos construct, loads, is, refl), sym (appended_none told))
+pub unloaded_answer : (f : Bundle → List ℕ) (map : FileMap) (file : List ℕ) (g : LoadFault) (end : End) (told : Option (List ℕ)) → FailsToLoad map file g → end ≡ end_of_fault file g → IsAnswer (status_of end) → LoadWith f map file end told told
+unloaded_answer f map file fault.NoMemory end told loads is answer = absurd (subst (λ e. IsAnswer (status_of e)) is answer)
+unloaded_answer f map file fault.ReadFault end told loads is answer = absurd (subst (λ e. IsAnswer (status_of e)) is answer)
+unloaded_answer f map file fault.Missing end told loads is answer = ([], (Missing file, loads, is, refl), sym (appended_none told))
+unloaded_answer f map file (fault.Refused pos construct) end told loads is answer = ([], (Refused file pos construct, loads, is, refl), sym (appended_none told))
+
+-- the text that was printed spells the script
+pub spelled : {E : Type 0} (r : Result (List ℕ) E) (script wanted : Script) → EsSpells wanted (text_of wanted) → script ≡ wanted → IfOk r (λ text. text ≡ text_of script) → IfOk r (λ text. EsSpells wanted text)
+spelled (Ok text) script wanted h e p = subst (EsSpells wanted) (sym (p ∙ ap text_of e)) h
+spelled (Err f) script wanted h e p = tt

@@ -1,9 +1,8 @@
 -- From the run of a script read back to Ruby's evaluation.
-use Rattle.std.proofs.Common.{◌≡◌, ◌⊎◌, ℕ, List, Some, refl, sym, ap, ◌∙◌, subst, Option}
-use mathlib.Core.Logic.{inl, inr}
-use Rattle.opal_base.specs.Outside.{FileMap, appended}
+use Rattle.std.proofs.Common.{◌≡◌, ℕ, List, Some, refl, sym, ap, ◌∙◌, subst, Option}
+use Rattle.opal_base.specs.Outside.{FileMap}
 use Rattle.opal_base.specs.Shown.{Shown, Ended, Going, Shows}
-use Rattle.ruby_meaning.specs.declared.tree.Bundle.{Bundle}
+use Rattle.ruby_meaning.specs.declared.bundle.Bundle.{Bundle}
 use Rattle.ruby_meaning.specs.Run as ruby
 use Rattle.ruby_meaning.specs.Run.{RubyEnd, ruby_run}
 use Rattle.es5_tree.specs.declared.small.Script.{Script}

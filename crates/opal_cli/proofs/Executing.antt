@@ -1,21 +1,22 @@
 -- From a run on the input to the answer of the call.
 use Rattle.std.proofs.Common.{◌≡◌, ◌⊎◌, ℕ, List, [], Err, refl, sym, subst, Option}
 use mathlib.Core.Logic.{inl, inr}
-use Rattle.opal_base.specs.Outside.{FileMap, appended}
+use Rattle.opal_base.specs.Outside.{FileMap}
 use Rattle.opal_base.proofs.Took.{appended_none}
 use Rattle.es5_tree.specs.declared.small.Script.{Script}
 use Rattle.es5_tree.specs.State.{Text}
-use Rattle.ruby_meaning.specs.declared.tree.Bundle.{Bundle}
-use Rattle.ruby_meaning.specs.Load.{Loads, Whole, Missing, Refused}
+use Rattle.ruby_meaning.specs.declared.bundle.Bundle.{Bundle}
+use Rattle.ruby_meaning.specs.Load.{Loads, Whole}
 use Rattle.opal_cli.specs.declared.words.Budget.{Budget}
-use Rattle.opal_cli.specs.declared.load.LoadFault.{LoadFault}
-use Rattle.opal_cli.specs.declared.load.LoadFault.TheVariants as load_fault
+use Rattle.require_bundles.specs.declared.bundle.LoadFault.{LoadFault}
+use Rattle.require_bundles.specs.declared.bundle.LoadFault.TheVariants as load_fault
 use Rattle.opal_cli.specs.declared.exec.BackFault.{BackFault}
 use Rattle.opal_cli.specs.declared.exec.BackFault.TheVariants as back
 use Rattle.opal_cli.specs.declared.script.ScriptFault.{ScriptFault}
 use Rattle.opal_cli.specs.declared.script.ScriptFault.TheVariants as script_fault
 use Rattle.opal_cli.specs.Ends.{End, Wrote, UncaughtBy, Unread, RefusedAt, MissingFile, ReadFailed, WriteFailed, OutsideAt, StepsOver, CellsOver, NoScript, BadInputAt, OutOfMemory, TextTooLong, status_of, IsAnswer}
-use Rattle.opal_cli.specs.Loading.{FailsToLoad, end_of_fault}
+use Rattle.require_bundles.specs.Loading.{FailsToLoad}
+use Rattle.opal_cli.specs.Loading.{end_of_fault}
 use Rattle.opal_cli.specs.Execution.{HasScript, HasProgram, IsProgram, RunAnswers, FileAnswers, ExecAnswers, RunWith, FileWith, ExecWith, TookRunFront, TookFileFront, TookExecFront, ScriptIn, end_of_script, EndsOnInput, EndsRun, IsInputOf, RunsTo, RanTo, ReadBack, end_of_back}
 
 -- a run that began on the input is the answer

@@ -2,7 +2,6 @@ pub mod Compiling
 pub mod Executing
 pub mod Executed
 pub mod Inputs
-pub mod Loads
 pub mod OneAnswer
 pub mod Reports
 pub mod Running

@@ -1,17 +1,16 @@
 -- Words are answered in one way.
-use Rattle.std.proofs.Common.{◌≡◌, ◌⊎◌, ℕ, suc, ◌+◌, ◌-◌, ◌<◌, ◌≤◌, ◌^◌, List, [], length, None, Some, refl, sym, ap, ◌∙◌, subst, arith, Option}
+use Rattle.std.proofs.Common.{◌≡◌, ℕ, suc, ◌+◌, ◌-◌, ◌<◌, ◌≤◌, ◌^◌, List, length, None, Some, refl, sym, ap, ◌∙◌, subst, arith, Option}
 use mathlib.Core.Logic.{inl, inr}
 use Rattle.opal_base.specs.Outside.{FileMap}
 use Rattle.opal_base.specs.Shown.{Shown, Ended, Going}
 use Rattle.opal_base.specs.Laws.{OneText, OneOffset, DecodedOrNot}
 use Rattle.opal_base.specs.declared.place.Pos.{Pos}
-use Rattle.ruby_meaning.specs.declared.tree.Bundle.{Bundle}
-use Rattle.ruby_meaning.specs.declared.construct.Construct.{Construct}
+use Rattle.ruby_meaning.specs.declared.bundle.Bundle.{Bundle}
 use Rattle.ruby_meaning.specs.Laws.{OneLoad}
 use Rattle.ruby_meaning.specs.Load.{Loaded, Loads, Whole, Missing, Refused}
 use Rattle.es5_tree.specs.declared.small.Script.{Script}
 use Rattle.es5_tree.specs.State.{Text}
-use Rattle.es5_tree.specs.Run.{EsEnd, Finished, Uncaught, Outside, es_run, cells_at}
+use Rattle.es5_tree.specs.Run.{EsEnd, Finished, Uncaught, Outside, cells_at}
 use Rattle.es5_tree.specs.Laws.{CellsGrow, OnePlace, NeverBoth, OneRead, ReadSpells}
 use Rattle.es5_tree.specs.Spells.{EsSpells, Reads}
 use Rattle.es5_tree.specs.Text.{text_of}
@@ -19,11 +18,11 @@ use Rattle.es5_machine.specs.declared.end.OutKind.{OutKind as Kind}
 use Rattle.es5_machine.specs.declared.end.OutKind.TheVariants as kind
 use Rattle.es5_machine.specs.Run.{kind_of}
 use Rattle.opal_cli.specs.declared.words.Budget.{Budget}
-use Rattle.opal_cli.specs.Words.{Asked, Compile, Run, Exec}
-use Rattle.opal_cli.specs.Ends.{End, Wrote, UncaughtBy, Unread, RefusedAt, MissingFile, ReadFailed, WriteFailed, OutsideAt, StepsOver, CellsOver, NoScript, BadInputAt, OutOfMemory, TextTooLong}
+use Rattle.opal_cli.specs.Words.{Compile, Check, Run, Exec}
+use Rattle.opal_cli.specs.Ends.{End, Wrote, UncaughtBy, RefusedAt, MissingFile, OutsideAt, StepsOver, CellsOver, NoScript, BadInputAt, TextTooLong}
 use Rattle.opal_cli.specs.Translation.{script_of}
 use Rattle.opal_cli.specs.Execution.{Stands, Fills, RunsTo, IsInput, IsBadInput, RunAnswers, IsNoScript, HasScript, FileAnswers, HasProgram, IsTooLong, ExecAnswers}
-use Rattle.opal_cli.specs.Answers.{Answers, end_of_load}
+use Rattle.opal_cli.specs.Answers.{end_of_load}
 use Rattle.opal_cli.specs.Laws.{OneAnswer}
 
 -- ---- runs
@@ -230,6 +229,8 @@ module _ (grow : CellsGrow) (apart : DecodedOrNot) (offsets : OneOffset) (texts 
 pub one_answer_is : CellsGrow → DecodedOrNot → OneOffset → OneText → OnePlace → NeverBoth → OneRead → ReadSpells → OneLoad → OneAnswer
 one_answer_is grow apart offsets texts place never reads spells one files input None end other output more a b = a.0 ∙ sym b.0
 one_answer_is grow apart offsets texts place never reads spells one files input (Some (Compile file)) end other output more a b =
+    a.2 ∙ ap end_of_load (one files file a.0 b.0 a.1 b.1) ∙ sym b.2
+one_answer_is grow apart offsets texts place never reads spells one files input (Some (Check file)) end other output more a b =
     a.2 ∙ ap end_of_load (one files file a.0 b.0 a.1 b.1) ∙ sym b.2
 one_answer_is grow apart offsets texts place never reads spells one files input (Some (Run file budget)) end other output more a b =
     one_file grow apart offsets texts place never reads spells files input file budget end other (file_case files input file budget end output a) (file_case files input file budget other more b)

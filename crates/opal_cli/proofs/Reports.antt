@@ -1,13 +1,12 @@
 -- What err took.
-use Rattle.std.proofs.Common.{◌≡◌, ◌≢◌, ◌⊎◌, ◌≤◌, ◌∙◌, ℕ, List, [], ◌∷◌, length, take, None, Some, refl, ap, sym, subst, arith, rules}
-use Rattle.std.specs.Bool.{⊤}
+use Rattle.std.proofs.Common.{◌≡◌, ◌≢◌, ◌⊎◌, ◌∙◌, ℕ, List, take, Some, refl, ap, sym, subst, arith, rules}
 use mathlib.Core.Logic.{inl, inr}
 use Rattle.std.specs.declared.option.Option.{Option}
 use Rattle.opal_base.specs.Outside.{appended, Rose, TookFront, FileMap, Missed}
 use Rattle.opal_base.proofs.Took.{appended_none}
 use Rattle.opal_cli.specs.Ends.{End, status_of, line_of, WriteFailed, OutOfMemory, MissingFile, IsAnswer}
 use Rattle.opal_cli.specs.Words.{Asked}
-use Rattle.opal_cli.specs.Answers.{TookFronts, SaidLine, CutLine, Reported, Answers, AnswersWith, AnswersAs, IsNamed, Says, IsRun}
+use Rattle.opal_cli.specs.Answers.{TookFronts, SaidLine, CutLine, Reported, Answers, AnswersWith, AnswersAs, IsNamed, Says, SaysCut, IsRun}
 use Rattle.opal_cli.specs.declared.status.Status.{Status}
 use Rattle.opal_cli.specs.declared.status.Status.TheVariants.{Done, Uncaught, Usage, Refused, Missing, ReadFault, WriteFault, Outside, OutOfSteps, CellsFull, NotScript, BadInput, NoMemory, TooLong}
 
@@ -99,6 +98,20 @@ answers_as files input words out_old out_new old new before now end status r a w
     from_told (inl line) = from_said r.said r.from line.is
     from_told (inr line) = absurd (subst IsAnswer line.is a)
 
+-- what was said is the outcome, or want of memory, and names what is answered
+named : (files : Option FileMap) (input : Option (List ℕ)) (words : Option Asked) (missed : List ℕ) (out_old out_new : Option (List ℕ)) (tally_old tally_new : ℕ) (end said : End)
+    → ((map : FileMap) → files ≡ Some map → IsAnswer (status_of end) → AnswersWith map input words end out_old out_new)
+    → ((name : List ℕ) → end ≡ MissingFile name → Missed tally_old tally_new missed name)
+    → (said ≡ end) ⊎ (said ≡ OutOfMemory) → IsNamed files input words missed said
+named files input words missed out_old out_new tally_old tally_new end said answers missing (inl e) = record {
+  answer = λ map told a. let w = answers map told (subst (λ x. IsAnswer (status_of x)) e a) in (w.0, subst (λ x. Answers map input words x w.0) (sym e) w.1);
+  missing = λ name is. (missing name (sym e ∙ is)).is_kept;
+}
+named files input words missed out_old out_new tally_old tally_new end said answers missing (inr e) = record {
+  answer = λ map told a. absurd (subst (λ x. IsAnswer (status_of x)) e a);
+  missing = λ name is. let f : OutOfMemory ≡ MissingFile name = sym e ∙ is in cc;
+}
+
 -- the line that was told names what is answered
 pub says : (files : Option FileMap) (input : Option (List ℕ)) (words : Option Asked) (missed : List ℕ) (out_old out_new old new : Option (List ℕ)) (before now tally_old tally_new : ℕ) (end : End) (status : Status)
     → Reported old new before now end status
@@ -107,16 +120,27 @@ pub says : (files : Option FileMap) (input : Option (List ℕ)) (words : Option 
     → status ≢ WriteFault → Says files input words missed old new status
 says files input words missed out_old out_new old new before now tally_old tally_new end status r answers missing not_cut = from_told r.told
   where
-    named : (said : End) → (said ≡ end) ⊎ (said ≡ OutOfMemory) → IsNamed files input words missed said
-    named said (inl e) = record {
-      answer = λ map told a. let w = answers map told (subst (λ x. IsAnswer (status_of x)) e a) in (w.0, subst (λ x. Answers map input words x w.0) (sym e) w.1);
-      missing = λ name is. (missing name (sym e ∙ is)).is_kept;
-    }
-    named said (inr e) = record {
-      answer = λ map told a. absurd (subst (λ x. IsAnswer (status_of x)) e a);
-      missing = λ name is. let f : OutOfMemory ≡ MissingFile name = sym e ∙ is in cc;
-    }
-
     from_told : SaidLine old new r.said status ⊎ CutLine old new before now r.said status → Says files input words missed old new status
-    from_told (inl line) = record { end = r.said; is = line.is; names = named r.said r.from; line = line.line }
+    from_told (inl line) = record {
+      end = r.said;
+      is = line.is;
+      names = named files input words missed out_old out_new tally_old tally_new end r.said answers missing r.from;
+      line = line.line;
+    }
     from_told (inr line) = absurd (not_cut line.is)
+
+-- and so does the line that was cut
+pub says_cut : (files : Option FileMap) (input : Option (List ℕ)) (words : Option Asked) (missed : List ℕ) (out_old out_new old new : Option (List ℕ)) (before now tally_old tally_new : ℕ) (end : End) (status : Status)
+    → Reported old new before now end status
+    → ((map : FileMap) → files ≡ Some map → IsAnswer (status_of end) → AnswersWith map input words end out_old out_new)
+    → ((name : List ℕ) → end ≡ MissingFile name → Missed tally_old tally_new missed name)
+    → status ≡ WriteFault → SaysCut files input words missed old new
+says_cut files input words missed out_old out_new old new before now tally_old tally_new end status r answers missing cut = from_told r.told
+  where
+    from_told : SaidLine old new r.said status ⊎ CutLine old new before now r.said status → SaysCut files input words missed old new
+    from_told (inl line) = absurd (line.not_cut cut)
+    from_told (inr line) = record {
+      end = r.said;
+      names = named files input words missed out_old out_new tally_old tally_new end r.said answers missing r.from;
+      cut = line.cut;
+    }

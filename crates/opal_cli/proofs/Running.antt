@@ -1,5 +1,5 @@
 -- From what the machine tells to how a run with a budget ends.
-use Rattle.std.proofs.Common.{◌≡◌, ◌≤◌, ◌<◌, ℕ, suc, ◌+◌, ◌-◌, List, [], ◌∷◌, ◌++◌, refl, sym, ap, ◌∙◌, subst, arith, zero-add, Option, None}
+use Rattle.std.proofs.Common.{◌≡◌, ◌≤◌, ◌<◌, ℕ, ◌+◌, ◌-◌, List, [], ◌∷◌, ◌++◌, refl, sym, ap, ◌∙◌, subst, arith, zero-add, Option, None}
 use Rattle.std.proofs.lemmas.List.{append-nil}
 use Rattle.opal_base.specs.Outside.{appended}
 use Rattle.opal_base.specs.Shown.{Ended, Going}
@@ -15,7 +15,7 @@ use Rattle.es5_machine.specs.Run.{Ran, HasRun, Keeps, started, output, output_at
 use Rattle.es5_machine.specs.declared.end.RunEnd.{RunEnd}
 use Rattle.es5_machine.specs.declared.end.RunEnd.TheVariants as run_end
 use Rattle.opal_cli.specs.declared.words.Budget.{Budget}
-use Rattle.opal_cli.specs.Ends.{End, Wrote, UncaughtBy, OutsideAt, StepsOver, CellsOver, WriteFailed, OutOfMemory, status_of, IsAnswer}
+use Rattle.opal_cli.specs.Ends.{End, status_of, IsAnswer}
 use Rattle.opal_cli.specs.Execution as job
 use Rattle.opal_cli.specs.Execution.{Stands, RanTo, TookRun, end_of_run}
 

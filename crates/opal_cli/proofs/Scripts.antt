@@ -1,5 +1,5 @@
 -- What was read of a script's file, one byte more than the longest at the most, stands for the file.
-use Rattle.std.proofs.Common.{◌≡◌, ◌⊎◌, ℕ, ◌≤◌, ◌<◌, List, length, take, None, Some, Ok, Err, Result, refl, sym, ap, ◌∙◌, subst, arith, length-take}
+use Rattle.std.proofs.Common.{◌≡◌, ℕ, ◌≤◌, List, length, take, None, Some, Ok, Err, Result, sym, ap, ◌∙◌, subst, arith, length-take}
 use mathlib.Core.Logic.{inl, inr}
 use Rattle.std.proofs.lemmas.List.{take_all}
 use Rattle.std.specs.Option.{option_map}

@@ -1,7 +1,7 @@
 -- The agreement of a bundle's evaluation and a script's run.
 use Rattle.std.specs.Prelude.{◌≡◌, ℕ, List, ⊤}
-use Rattle.opal_base.specs.Shown.{Shown, Ended, Going, Shows}
-use Rattle.ruby_meaning.specs.declared.tree.Bundle.{Bundle}
+use Rattle.opal_base.specs.Shown.{Ended, Going, Shows}
+use Rattle.ruby_meaning.specs.declared.bundle.Bundle.{Bundle}
 use Rattle.ruby_meaning.specs.Run.{RubyEnd, ruby_run}
 use Rattle.ruby_meaning.specs.Run as ruby
 use Rattle.es5_tree.specs.declared.small.Script.{Script}

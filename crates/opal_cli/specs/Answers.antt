@@ -1,12 +1,13 @@
 -- What a call of the program answers, and what out and err take of it.
-use Rattle.std.specs.Prelude.{◌≡◌, ◌≢◌, ◌⊎◌, ◌≤◌, ℕ, List, [], length, take, None, Some, ⊤}
+use Rattle.std.specs.Prelude.{◌≡◌, ◌≢◌, ◌⊎◌, ◌≤◌, ℕ, List, [], length, take, None, Some, codes, ⊤}
 use Rattle.std.specs.declared.option.Option.{Option}
 use Rattle.opal_base.specs.Outside.{FileMap, Rose, appended, TookFront}
+use Rattle.ruby_meaning.specs.declared.bundle.Bundle.{Bundle}
 use Rattle.ruby_meaning.specs.Load.{Loaded, Whole, Missing, Refused, Loads}
 use Rattle.es5_tree.specs.Text.{text_of}
 use Rattle.opal_cli.specs.declared.status.Status.{Status}
 use Rattle.opal_cli.specs.declared.status.Status.TheVariants as status
-use Rattle.opal_cli.specs.Words.{Asked, Compile, Run, Exec}
+use Rattle.opal_cli.specs.Words.{Asked, Compile, Check, Run, Exec}
 use Rattle.opal_cli.specs.Execution.{FileAnswers, ExecAnswers, TookFileFront, TookExecFront}
 use Rattle.opal_cli.specs.Translation.{script_of}
 use Rattle.opal_cli.specs.Headline.{Compiles}
@@ -19,22 +20,32 @@ end_of_load (Whole bundle) = Wrote
 end_of_load (Missing name) = MissingFile name
 end_of_load (Refused file pos construct) = RefusedAt file pos construct
 
-abbrev pub text_of_load : Loaded → List ℕ
-text_of_load (Whole bundle) = text_of (script_of bundle)
-text_of_load (Missing name) = []
-text_of_load (Refused file pos construct) = []
+-- what is written where loading comes to this, as a bundle says
+abbrev pub output_of_load : (Bundle → List ℕ) → Loaded → List ℕ
+output_of_load f (Whole bundle) = f bundle
+output_of_load f (Missing name) = []
+output_of_load f (Refused file pos construct) = []
 
--- over these files compiling this one ends so, with this text
-abbrev pub CompileAnswers : FileMap → List ℕ → End → List ℕ → Type 0
-CompileAnswers files file end output = (loaded : Loaded) × Loads files file loaded × (end ≡ end_of_load loaded) × (output ≡ text_of_load loaded)
+-- `compile` writes the text of the script
+abbrev pub script_text : Bundle → List ℕ
+script_text bundle = text_of (script_of bundle)
 
-abbrev pub CompileWith : FileMap → List ℕ → End → Option (List ℕ) → Option (List ℕ) → Type 0
-CompileWith files file end old new = (output : List ℕ) × CompileAnswers files file end output × (new ≡ appended old output)
+-- `check` writes a line
+abbrev pub ok_line : Bundle → List ℕ
+ok_line bundle = codes "ok\n"
+
+-- over these files loading this one ends so, with this output
+abbrev pub LoadAnswers : (Bundle → List ℕ) → FileMap → List ℕ → End → List ℕ → Type 0
+LoadAnswers f files file end output = (loaded : Loaded) × Loads files file loaded × (end ≡ end_of_load loaded) × (output ≡ output_of_load f loaded)
+
+abbrev pub LoadWith : (Bundle → List ℕ) → FileMap → List ℕ → End → Option (List ℕ) → Option (List ℕ) → Type 0
+LoadWith f files file end old new = (output : List ℕ) × LoadAnswers f files file end output × (new ≡ appended old output)
 
 -- over these files and this input the words are answered so, with this output
 abbrev pub Answers : FileMap → Option (List ℕ) → Option Asked → End → List ℕ → Type 0
 Answers files input None end output = (end ≡ Unread) × (output ≡ [])
-Answers files input (Some (Compile file)) end output = CompileAnswers files file end output
+Answers files input (Some (Compile file)) end output = LoadAnswers script_text files file end output
+Answers files input (Some (Check file)) end output = LoadAnswers ok_line files file end output
 Answers files input (Some (Run file budget)) end output = FileAnswers files input file budget end output
 Answers files input (Some (Exec file budget)) end output = ExecAnswers files input file budget end output
 
@@ -46,21 +57,29 @@ AnswersWith files input words end old new = (output : List ℕ) × Answers files
 abbrev pub AnswersAs : FileMap → Option (List ℕ) → Option Asked → Status → Option (List ℕ) → Option (List ℕ) → Type 0
 AnswersAs files input words answer old new = (end : End) × AnswersWith files input words end old new × (answer ≡ status_of end)
 
--- out took a front of what compiling this file writes
-abbrev pub TookTextFront : FileMap → List ℕ → Option (List ℕ) → Option (List ℕ) → Type 0
-TookTextFront files file old new = (loaded : Loaded) → Loads files file loaded → TookFront old new (text_of_load loaded)
+-- out took a front of what is written where this file loads
+abbrev pub TookLoadFront : (Bundle → List ℕ) → FileMap → List ℕ → Option (List ℕ) → Option (List ℕ) → Type 0
+TookLoadFront f files file old new = (loaded : Loaded) → Loads files file loaded → TookFront old new (output_of_load f loaded)
 
 -- out took a front of what the answer to the words writes
 abbrev pub TookAnswerFront : FileMap → Option (List ℕ) → Option Asked → Option (List ℕ) → Option (List ℕ) → Type 0
 TookAnswerFront files input None old new = new ≡ old
-TookAnswerFront files input (Some (Compile file)) old new = TookTextFront files file old new
+TookAnswerFront files input (Some (Compile file)) old new = TookLoadFront script_text files file old new
+TookAnswerFront files input (Some (Check file)) old new = TookLoadFront ok_line files file old new
 TookAnswerFront files input (Some (Run file budget)) old new = TookFileFront files input file budget old new
 TookAnswerFront files input (Some (Exec file budget)) old new = TookExecFront files input file budget old new
+
+-- the file loads to a bundle, and out took the line that says so
+pub record Checks (files : FileMap) (file : List ℕ) (old new : Option (List ℕ)) : Type 0 where
+  pub bundle : Bundle
+  pub loads : Loads files file (Whole bundle)
+  pub written : new ≡ appended old (codes "ok\n")
 
 -- out took all that the words ask for
 abbrev pub TookJob : FileMap → Option Asked → Option (List ℕ) → Option (List ℕ) → Type 0
 TookJob files None old new = ⊥
 TookJob files (Some (Compile file)) old new = Compiles files file old new
+TookJob files (Some (Check file)) old new = Checks files file old new
 TookJob files (Some (Run file budget)) old new = ⊤
 TookJob files (Some (Exec file budget)) old new = ⊤
 
@@ -70,6 +89,7 @@ TookJob files (Some (Exec file budget)) old new = ⊤
 abbrev pub AsksForRun : Option Asked → Type 0
 AsksForRun None = ⊥
 AsksForRun (Some (Compile file)) = ⊥
+AsksForRun (Some (Check file)) = ⊥
 AsksForRun (Some (Run file budget)) = ⊤
 AsksForRun (Some (Exec file budget)) = ⊤
 

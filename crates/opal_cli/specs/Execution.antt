@@ -6,8 +6,8 @@ use Rattle.opal_base.specs.Outside.{FileMap, Rose, appended}
 use Rattle.opal_base.specs.Shown.{Shown, Ended, Going, Shows}
 use Rattle.opal_base.specs.Text.{IsDecoded}
 use Rattle.opal_base.specs.declared.place.Pos.{Pos}
-use Rattle.ruby_meaning.specs.Lines.{place}
-use Rattle.ruby_meaning.specs.declared.tree.Bundle.{Bundle}
+use Rattle.ruby_meaning.specs.Load.{place}
+use Rattle.ruby_meaning.specs.declared.bundle.Bundle.{Bundle}
 use Rattle.ruby_meaning.specs.Run as ruby
 use Rattle.ruby_meaning.specs.Run.{ruby_run}
 use Rattle.ruby_meaning.specs.Load.{Loads, Whole, Missing, Refused}

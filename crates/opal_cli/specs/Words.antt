@@ -1,5 +1,5 @@
 -- The words of the command line.
-use Rattle.std.specs.Prelude.{◌≤◌, ⊤, ℕ, ◌+◌, ◌-◌, ◌*◌, ◌^◌, ◌==◌, ◌&&◌, not, nat_le, Bool, false, List, [], ◌∷◌, map, None, Some, String, string_bytes, if◌then◌else◌, bytes_eq, codes}
+use Rattle.std.specs.Prelude.{◌≤◌, ⊤, ℕ, ◌+◌, ◌-◌, ◌*◌, ◌==◌, ◌&&◌, not, nat_le, Bool, false, List, [], ◌∷◌, map, None, Some, String, string_bytes, if◌then◌else◌, bytes_eq, codes}
 use Rattle.std.specs.Option.{option_map, option_and_then}
 use Rattle.std.specs.declared.option.Option.{Option}
 use Rattle.std.specs.declared.alloc.Global.{Global}
@@ -10,6 +10,7 @@ use Rattle.opal_cli.specs.declared.words.Command.TheVariants as command
 -- what the words ask for
 pub data Asked : Type 0 where
   Compile : List ℕ → Asked
+  Check : List ℕ → Asked
   Run : List ℕ → Budget → Asked
   Exec : List ℕ → Budget → Asked
 
@@ -65,15 +66,17 @@ budget_of _ = None
 
 -- ---- commands
 
-abbrev pub compile_of : List ℕ → List (List ℕ) → Option Asked
-compile_of file [] = Some (Compile file)
-compile_of file _ = None
+-- what is asked where nothing stands behind the file
+abbrev pub alone : Asked → List (List ℕ) → Option Asked
+alone asked [] = Some asked
+alone asked _ = None
 
 abbrev pub command_of : List ℕ → List ℕ → List (List ℕ) → Option Asked
 command_of verb file options =
-    if bytes_eq verb (codes "compile") then compile_of file options
+    if bytes_eq verb (codes "compile") then alone (Compile file) options
+    else (if bytes_eq verb (codes "check") then alone (Check file) options
     else (if bytes_eq verb (codes "run") then option_map (Run file) (budget_of options)
-    else (if bytes_eq verb (codes "exec") then option_map (Exec file) (budget_of options) else None))
+    else (if bytes_eq verb (codes "exec") then option_map (Exec file) (budget_of options) else None)))
 
 abbrev pub asked : List (List ℕ) → Option Asked
 asked (verb ∷ file ∷ options) = if is_file_name file then command_of verb file options else None
@@ -85,11 +88,13 @@ asked_by words = asked (map string_bytes words)
 
 abbrev pub asked_of : Command → Asked
 asked_of (command.Compile file) = Compile file.now
+asked_of (command.Check file) = Check file.now
 asked_of (command.Run file budget) = Run file.now budget
 asked_of (command.Exec file budget) = Exec file.now budget
 
 -- the steps of a run are within their bound
 abbrev pub IsBounded : Command → Type 0
 IsBounded (command.Compile file) = ⊤
+IsBounded (command.Check file) = ⊤
 IsBounded (command.Run file budget) = budget.steps ≤ 1000000000
 IsBounded (command.Exec file budget) = budget.steps ≤ 1000000000

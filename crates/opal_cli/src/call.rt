@@ -4,11 +4,12 @@ ghost use Rattle.opal_base.specs.Outside.{Rose, FileMap, Missed};
 ghost use Rattle.opal_cli.specs.Words as asked;
 ghost use Rattle.opal_cli.specs.Words.{asked_by, asked_of, IsBounded};
 ghost use Rattle.opal_cli.specs.Ends.{End, status_of, end_of, MissingFile, IsAnswer, IsSilent};
-ghost use Rattle.opal_cli.specs.Answers.{Answers, AnswersWith, AnswersAs, AsksForRun, IsRun, TookAnswerFront, TookJob, Says, SaysCut};
+ghost use Rattle.opal_cli.specs.Answers.{Answers, AnswersWith, AnswersAs, AsksForRun, Checks, IsRun, TookAnswerFront, TookJob, Says, SaysCut};
 ghost use Rattle.opal_cli.specs.Headline.{Compiles};
 ghost use Rattle.opal_cli.specs.Execution.{Executes};
 ghost use Rattle.opal_cli.specs.declared.words.Budget.{Budget};
 
+use crate::check::check;
 use crate::compile::compile;
 use crate::exec::exec;
 use crate::laws::one_answer;
@@ -36,6 +37,10 @@ pub fn opal<F: Files, I: Source, O: Sink, E: Sink>(
     // end; and while neither ends, each output that one shows after n steps the other shows too.
     ensures headline { (map : FileMap) (file : List ℕ) → F.told files.old ≡ Some map → asked_by words.now.items ≡ Some (asked.Compile file)
         → result ≡ Status.Done → Compiles map file (O.told out.old) (O.told out.new) }
+
+    // Where a file was checked, it loads to a bundle, and out took the line that says so.
+    ensures check { (map : FileMap) (file : List ℕ) → F.told files.old ≡ Some map → asked_by words.now.items ≡ Some (asked.Check file)
+        → result ≡ Status.Done → Checks map file (O.told out.old) (O.told out.new) }
 
     // Where a program was executed, Ruby's evaluation on the input shows what out took, and ends so.
     ensures exec { (map : FileMap) (file : List ℕ) (budget : Budget) → F.told files.old ≡ Some map → asked_by words.now.items ≡ Some (asked.Exec file budget)
@@ -134,6 +139,7 @@ fn perform<'a, F: Files, I: Source, O: Sink>(
 {
     match command {
         Command::Compile(file) => compile(alloc, file, files, out),
+        Command::Check(file) => check(alloc, file, files, out),
         Command::Run(file, budget) => run(alloc, file, budget, files, input, out),
         Command::Exec(file, budget) => exec(alloc, file, budget, files, input, out),
     }

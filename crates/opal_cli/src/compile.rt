@@ -7,15 +7,15 @@ ghost use Rattle.opal_cli.specs.Agree.{Agree};
 ghost use Rattle.opal_cli.specs.Translation.{script_of};
 ghost use Rattle.opal_cli.specs.Ends.{status_of, end_of, MissingFile, IsAnswer, IsSilent};
 ghost use Rattle.opal_cli.specs.Loading.{end_of_fault};
-ghost use Rattle.opal_cli.specs.Answers.{CompileWith, TookTextFront};
+ghost use Rattle.opal_cli.specs.Answers.{LoadWith, TookLoadFront, script_text as text_of_bundle};
 ghost use Rattle.opal_cli.specs.Headline.{Compiles};
 
-use crate::load::{LoadFault, load};
 use crate::outcome::Outcome;
 use crate::print::print;
 use crate::status::Status;
 use crate::translate::translate;
 use opal_base::{Bytes, Files, NoMemory, Sink, write_all};
+use require_bundles::{LoadFault, load};
 use ruby_meaning::{Bundle, one_load};
 use std::alloc::Global;
 
@@ -30,7 +30,7 @@ pub fn compile<'a, F: Files, O: Sink>(
     ensures headline { (map : FileMap) → F.told files.old ≡ Some map → status_of (end_of result) ≡ Status.Done
         → Compiles map file.now (O.told out.old) (O.told out.new) }
     ensures answer { (map : FileMap) → F.told files.old ≡ Some map → IsAnswer (status_of (end_of result))
-        → CompileWith map file.now (end_of result) (O.told out.old) (O.told out.new) }
+        → LoadWith text_of_bundle map file.now (end_of result) (O.told out.old) (O.told out.new) }
     ensures not_usage { status_of (end_of result) ≢ Status.Usage }
     ensures missing { (name : List ℕ) → end_of result ≡ MissingFile name → Missed (F.tally files.old) (F.tally files.new) (F.missed files.new) name }
     ensures read { status_of (end_of result) ≡ Status.ReadFault → Rose (F.faults files.old) (F.faults files.new) }
@@ -39,7 +39,7 @@ pub fn compile<'a, F: Files, O: Sink>(
     // What out took.
     ensures silent { IsSilent (status_of (end_of result)) → O.told out.new ≡ O.told out.old }
     ensures front { (map : FileMap) → F.told files.old ≡ Some map
-        → TookTextFront map file.now (O.told out.old) (O.told out.new) }
+        → TookLoadFront text_of_bundle map file.now (O.told out.old) (O.told out.new) }
 
     ensures later_files { F.faults files.old ≤ F.faults files.new }
     ensures later_tally { F.tally files.old ≤ F.tally files.new }

@@ -6,7 +6,6 @@ ghost use Rattle.opal_cli.specs.Answers.{IsRun};
 ghost use Rattle.opal_cli.specs.Execution.{ExecWith, TookExecFront, ReadBack, end_of_back};
 
 use crate::compile::{script_text, unloaded};
-use crate::load::load;
 use crate::outcome::Outcome;
 use crate::run::run_on_input;
 use crate::status::Status;
@@ -15,6 +14,7 @@ use es5_parser::read_script;
 use es5_tree::small::Script;
 use es5_tree::{EsStop, one_place};
 use opal_base::{Files, NoMemory, Sink, Source};
+use require_bundles::load;
 use ruby_meaning::Bundle;
 use std::alloc::Global;
 

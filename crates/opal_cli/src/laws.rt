@@ -1,18 +1,17 @@
 ghost use Rattle.opal_cli.specs.Laws.{Agreement, OneAnswer};
 
-use es5_tree::{cells_grow, one_place, one_read, text_spells, writes_in_turn};
-use opal_base::{decoded_fits, decoded_or_not, one_offset, one_text};
-use ruby_meaning::{one_load, puts_in_turn};
+use es5_tree::{cells_grow, one_place, one_read, writes_in_turn};
+use opal_base::{decoded_or_not, one_offset, one_text};
+use ruby_meaning::{one_load, only_puts, puts_in_turn};
 
-/// The evaluation of a bundle that some file spells agrees with the run of its script, and the
-/// script's text spells it. The calls do nothing: each is the law that its contract states.
+/// The evaluation of a bundle that some file spells agrees with the run of its script. The calls
+/// do nothing: each is the law that its contract states.
 pub fn agreement()
     ensures { Agreement }
 {
-    decoded_fits();
-    writes_in_turn();
-    text_spells();
+    only_puts();
     puts_in_turn();
+    writes_in_turn();
 }
 
 /// Over the same files and the same input, words are answered in one way.

@@ -2,12 +2,12 @@
 #![tactic(auto)]
 
 mod call;
+mod check;
 mod compile;
 mod exec;
 mod execute;
 mod input;
 mod laws;
-mod load;
 mod outcome;
 mod print;
 mod report;

@@ -70,7 +70,7 @@ impl<'a> Call<'a> {
 
 #[test]
 fn files_are_compiled(rt: HostRuntime) -> Result<(), Fail> {
-    let cases: [(&[u8], &[u8]); 9] = [
+    let cases: [(&[u8], &[u8]); 13] = [
         (b"puts 'hi'", b"\"use strict\";\n$host.write(\"hi\\n\");\n"),
         (
             b"puts 'hi'\n",
@@ -98,6 +98,19 @@ fn files_are_compiled(rt: HostRuntime) -> Result<(), Fail> {
             b"puts '#{x}'",
             b"\"use strict\";\n$host.write(\"#{x}\\n\");\n",
         ),
+        (
+            b"puts(\"a\\tb\\n\") # told once\n\n",
+            b"\"use strict\";\n$host.write(\"a\\tb\\n\");\n",
+        ),
+        (
+            b"puts 'it\\'s'; puts \"\\u{e9}\"",
+            b"\"use strict\";\n$host.write(\"it's\\n\");\n$host.write(\"\\u00e9\\n\");\n",
+        ),
+        (
+            b"(puts 'a'; (puts 'b'))\nputs 'c'",
+            b"\"use strict\";\n$host.write(\"a\\n\");\n$host.write(\"b\\n\");\n$host.write(\"c\\n\");\n",
+        ),
+        (b"# nothing\n()\n", b"\"use strict\";\n"),
     ];
     for (file, script) in cases {
         let (status, out, err) = Call::of(&["compile", "main.rb"], file).ran(&rt)?;
@@ -110,12 +123,21 @@ fn files_are_compiled(rt: HostRuntime) -> Result<(), Fail> {
 
 #[test]
 fn refusals_name_their_place(rt: HostRuntime) -> Result<(), Fail> {
-    let cases: [(&[u8], &[u8]); 9] = [
+    let cases: [(&[u8], &[u8]); 12] = [
         (b"puts 'a'\nx = 1", b"dir/main.rb:2:1: refused: NotYet\n"),
-        (b"puts 'a'\r\n", b"dir/main.rb:1:1: refused: NotYet\n"),
-        (b"puts 'a'\n\n", b"dir/main.rb:2:1: refused: NotYet\n"),
-        (b"puts \"a\"", b"dir/main.rb:1:1: refused: NotYet\n"),
-        (b"puts 'a\\\\'", b"dir/main.rb:1:1: refused: NotYet\n"),
+        (b"puts 'a'; puts 1", b"dir/main.rb:1:11: refused: NotYet\n"),
+        (b"require 'a'", b"dir/main.rb:1:1: refused: NotYet\n"),
+        (b"x = /a/", b"dir/main.rb:1:5: refused: Regexp\n"),
+        (b"class A\n", b"dir/main.rb:2:1: refused: Syntax\n"),
+        (
+            b"x = 5\ny = x -1",
+            b"dir/main.rb:2:7: refused: AmbiguousArgument\n",
+        ),
+        (b"break", b"dir/main.rb:1:1: refused: JumpOutside\n"),
+        (
+            b"puts 9007199254740992",
+            b"dir/main.rb:1:6: refused: NumberLiteral\n",
+        ),
         (b"\xff", b"dir/main.rb:1:1: refused: BadByte\n"),
         (
             b"puts 'a'\n\xc3\xa9\xf0\x9f\x98\x80\xc0\x80",
@@ -135,9 +157,11 @@ fn refusals_name_their_place(rt: HostRuntime) -> Result<(), Fail> {
 
 #[test]
 fn words_without_a_reading_are_usage(rt: HostRuntime) -> Result<(), Fail> {
-    let cases: [&[&str]; 19] = [
+    let cases: [&[&str]; 21] = [
         &[],
         &["compile"],
+        &["check"],
+        &["check", "main.rb", "main.rb"],
         &["compile", ""],
         &["compile", "-x"],
         &["compile", "main.rb", "main.rb"],
@@ -265,7 +289,31 @@ type Row<'a> = (&'a [&'a str], &'a [u8], &'a [u8], u8, &'a [u8], &'a [u8]);
 #[test]
 fn scripts_and_programs_are_run(rt: HostRuntime) -> Result<(), Fail> {
     let writes_a: &[u8] = b"'use strict';$host.write(\"a\");";
-    let rows: [Row<'_>; 16] = [
+    let rows: [Row<'_>; 19] = [
+        (
+            &["check", "main.rb"],
+            b"puts 'hi'",
+            b"\xff",
+            0,
+            b"ok\n",
+            b"",
+        ),
+        (
+            &["check", "main.rb"],
+            b"puts 'hi",
+            b"",
+            3,
+            b"",
+            b"main.rb:1:6: refused: Unterminated\n",
+        ),
+        (
+            &["check", "other.rb"],
+            b"",
+            b"",
+            4,
+            b"",
+            b"missing: other.rb\n",
+        ),
         (&["exec", "main.rb"], b"puts 'hi'", b"", 0, b"hi\n", b""),
         (&["exec", "main.rb"], b"", b"", 0, b"", b""),
         (

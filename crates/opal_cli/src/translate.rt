@@ -1,8 +1,10 @@
-ghost use Rattle.std.specs.Prelude.{◌≡◌, List, [], ◌∷◌, IfOk, option_to_list};
+ghost use Rattle.std.specs.Prelude.{◌≡◌, ◌<◌, ◌^◌, List, [], ◌∷◌, ◌++◌, map, IfOk, option_to_list};
 ghost use Rattle.std.specs.Option.{option_copied};
+ghost use Rattle.std.specs.List.{AllByRecursion};
 ghost use Rattle.ruby_meaning.specs.Eval.{puts_text};
 ghost use Rattle.ruby_meaning.specs.Eval as spec_of;
 ghost use Rattle.ruby_meaning.specs.Load.{IsSound};
+ghost use Rattle.ruby_meaning.specs.Puts.{all_texts, putting};
 ghost use Rattle.es5_tree.specs.Spells.{EsSpells};
 ghost use Rattle.es5_tree.specs.Text.{text_of};
 ghost use Rattle.opal_cli.specs.Agree.{Agree};
@@ -11,7 +13,8 @@ ghost use Rattle.es5_tree.specs.declared.small.EsKind.TheVariants as kind;
 ghost use Rattle.opal_cli.specs.Translation as spec;
 
 use crate::laws::agreement;
-use es5_tree::small::{EsExpr, EsKind, EsStmt, Script};
+use es5_tree::small::{EsExpr, EsKind, EsStmt, EsStmts, Script};
+use es5_tree::text_spells;
 use opal_base::{NoMemory, Pos, Units};
 use ruby_meaning::{Bundle, Kind, Node};
 use sqlite_items::{Boxed, Items};
@@ -23,44 +26,64 @@ pub fn translate(alloc: Global, bundle: &Bundle) -> Result<Script, NoMemory>
     requires { IsSound bundle.now }
     ensures script { IfOk result (λ script. script ≡ spec.script_of bundle.now) }
     ensures agrees { Agree bundle.now (spec.script_of bundle.now) }
-    ensures spellable { EsSpells (spec.script_of bundle.now) (text_of (spec.script_of bundle.now)) }
+    ensures spellable { IfOk result (λ script. EsSpells (spec.script_of bundle.now) (text_of (spec.script_of bundle.now))) }
 {
     agreement();
+    text_spells();
     let mut body = Items::new(alloc);
-    for node in statements_in(&bundle.main.body) {
-        if let Some(text) = argument_in(node) {
-            if body.push(write_stmt(alloc, text)?).is_err() {
-                return Err(NoMemory);
-            }
-        }
-    }
+    add_statements(alloc, &mut body, &bundle.main.program.body)?;
     Ok(Script { body })
 }
 
-fn statements_in(node: &Node) -> &[Node]
-    ensures { result.now ≡ spec.statements_in (spec.layer node.now) }
+// Adds a statement for each text that a node writes.
+#[cycle(statements)]
+#[tactic(auto, unfolding(ruby_meaning::specs::Puts::putting, ruby_meaning::specs::Puts::kind_putting))]
+fn add_statements(alloc: Global, body: &mut EsStmts, node: &Node) -> Result<(), NoMemory>
+    ensures added { IfOk result (λ done. body.new ≡ body.old ++ spec.statements (putting node.now).texts) }
+    ensures small { IfOk result (λ done. spec.Of16Bits (putting node.now).texts) }
 {
     match node.kind.get() {
-        Kind::Seq(nodes) => nodes.as_slice(),
-        _ => &[],
-    }
-}
-
-// The literal that a call has as its one argument.
-fn argument_in(node: &Node) -> Option<&Units>
-    ensures { option_to_list (option_copied result) ≡ spec.argument_in (spec.layer node.now) }
-{
-    match node.kind.get() {
+        Kind::Seq(nodes) => add_all(alloc, body, nodes),
         Kind::Call { args, .. } => match args.as_slice() {
-            [arg] => literal_in(arg),
-            _ => None,
+            [arg] => add_text(alloc, body, arg),
+            _ => Ok(()),
         },
-        _ => None,
+        _ => Ok(()),
     }
 }
 
+#[cycle(statements)]
+#[tactic(auto, unfolding(ruby_meaning::specs::Puts::putting, ruby_meaning::specs::Puts::kind_putting))]
+fn add_all(alloc: Global, body: &mut EsStmts, nodes: &Items<Node>) -> Result<(), NoMemory>
+    ensures added { IfOk result (λ done. body.new ≡ body.old ++ spec.statements (all_texts (map putting nodes.now))) }
+    ensures small { IfOk result (λ done. spec.Of16Bits (all_texts (map putting nodes.now))) }
+{
+    for node in nodes.as_slice() {
+        add_statements(alloc, body, node)?;
+    }
+    Ok(())
+}
+
+// Adds a statement for the argument of a call, where it is a text.
+fn add_text(alloc: Global, body: &mut EsStmts, arg: &Node) -> Result<(), NoMemory>
+    ensures added { IfOk result (λ done. body.new ≡ body.old ++ spec.statements (option_to_list (putting arg.now).text)) }
+    ensures small { IfOk result (λ done. spec.Of16Bits (option_to_list (putting arg.now).text)) }
+{
+    match literal_in(arg) {
+        Some(text) => {
+            let line = line_of(alloc, text)?;
+            if body.push(write_stmt(alloc, line)?).is_err() {
+                return Err(NoMemory);
+            }
+            Ok(())
+        }
+        None => Ok(()),
+    }
+}
+
+#[tactic(auto, unfolding(ruby_meaning::specs::Puts::putting, ruby_meaning::specs::Puts::kind_putting))]
 fn literal_in(node: &Node) -> Option<&Units>
-    ensures { option_to_list (option_copied result) ≡ spec.literal_in (spec.layer node.now) }
+    ensures { option_copied result ≡ (putting node.now).text }
 {
     match node.kind.get() {
         Kind::Str(text) => Some(text),
@@ -68,13 +91,13 @@ fn literal_in(node: &Node) -> Option<&Units>
     }
 }
 
-// `$host.write(text);`, where the text ends a line.
-fn write_stmt(alloc: Global, text: &Units) -> Result<EsStmt, NoMemory>
-    ensures { IfOk result (λ stmt. stmt ≡ write (puts_text text.now)) }
+// `$host.write(line);`
+fn write_stmt(alloc: Global, line: Units) -> Result<EsStmt, NoMemory>
+    ensures { IfOk result (λ stmt. stmt ≡ write line) }
 {
     let host = expr(alloc, EsKind::Name(ascii(alloc, b"$host")?))?;
     let callee = expr(alloc, EsKind::Member(host, ascii(alloc, b"write")?))?;
-    let literal = expr(alloc, EsKind::Str(line_of(text)?))?;
+    let literal = expr(alloc, EsKind::Str(line))?;
     Ok(EsStmt::Expr(call(alloc, callee, literal)?))
 }
 
@@ -102,11 +125,15 @@ fn expr(alloc: Global, form: EsKind) -> Result<EsExpr, NoMemory>
     }
 }
 
-// What `puts` writes of a text: it ends with a line feed.
-fn line_of(text: &Units) -> Result<Units, NoMemory>
-    ensures { IfOk result (λ line. line ≡ puts_text text.now) }
+// What `puts` writes of a text: it ends with a line feed. Its units have 16 bits.
+fn line_of(alloc: Global, text: &Units) -> Result<Units, NoMemory>
+    ensures line { IfOk result (λ line. line ≡ puts_text text.now) }
+    ensures small { IfOk result (λ line. AllByRecursion (λ unit. unit < 2 ^ 16) line) }
 {
-    let mut line = text.try_clone()?;
+    let mut line = Units::new(alloc);
+    for unit in text.as_slice() {
+        line.push(*unit)?;
+    }
     if !ends_line(text.as_slice()) {
         line.push(10)?;
     }

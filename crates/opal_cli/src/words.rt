@@ -20,6 +20,7 @@ pub struct Budget {
 #[derive(Clone, Copy)]
 pub enum Command<'a> {
     Compile(&'a str),
+    Check(&'a str),
     Run(&'a str, Budget),
     Exec(&'a str, Budget),
 }
@@ -46,7 +47,9 @@ fn command_of<'a>(verb: &str, file: &'a str, options: &[String]) -> Option<Comma
     ensures bounded { IfSome result IsBounded }
 {
     if verb == "compile" {
-        compile_of(file, options)
+        alone(Command::Compile(file), options)
+    } else if verb == "check" {
+        alone(Command::Check(file), options)
     } else if verb == "run" {
         Some(Command::Run(file, budget_of(options)?))
     } else if verb == "exec" {
@@ -56,12 +59,14 @@ fn command_of<'a>(verb: &str, file: &'a str, options: &[String]) -> Option<Comma
     }
 }
 
-fn compile_of<'a>(file: &'a str, options: &[String]) -> Option<Command<'a>>
-    ensures is { option_map asked_of result ≡ words_of.compile_of file.now (map string_bytes options.now) }
+// A command behind whose file nothing stands.
+fn alone<'a>(command: Command<'a>, options: &[String]) -> Option<Command<'a>>
+    requires { IsBounded command }
+    ensures is { option_map asked_of result ≡ words_of.alone (asked_of command.entry) (map string_bytes options.now) }
     ensures bounded { IfSome result IsBounded }
 {
     match options {
-        [] => Some(Command::Compile(file)),
+        [] => Some(command),
         _ => None,
     }
 }

@@ -3,11 +3,16 @@ use Rattle.opal_cli.specs.Ends.{status_of}
 use Rattle.opal_cli.specs.Words.{asked_by}
 use Rattle.opal_cli.specs.Answers.{TookJob, Answers, AnswersAs}
 use Rattle.opal_cli.proofs.Executed.{executed}
-use Rattle.opal_cli.proofs.Reports.{done_was, answers_as, is_answer, says}
+use Rattle.opal_cli.proofs.Reports.{done_was, answers_as, is_answer, says, says_cut}
 use Rattle.opal_cli.proofs.call.opal.Goals as goal
 
 pub returns-clause-headline : goal.returns-clause-headline
 returns-clause-headline g c map file told asked done =
+    subst (λ words. TookJob map words (g.O.Sink.told c.args.out.now) (g.O.Sink.told c.work-outcome.new.out)) asked
+    (c.work-outcome.ensures.done map told (done_was _ _ _ _ _ _ c.report.ensures.told done))
+
+pub returns-clause-check : goal.returns-clause-check
+returns-clause-check g c map file told asked done =
     subst (λ words. TookJob map words (g.O.Sink.told c.args.out.now) (g.O.Sink.told c.work-outcome.new.out)) asked
     (c.work-outcome.ensures.done map told (done_was _ _ _ _ _ _ c.report.ensures.told done))
 
@@ -20,6 +25,10 @@ returns-clause-exec g c map file budget told asked ran =
 pub returns-clause-line : goal.returns-clause-line
 returns-clause-line g c not_cut =
     says _ _ _ _ _ _ _ _ _ _ _ _ _ _ c.report.ensures.told c.work-outcome.ensures.answer c.work-outcome.ensures.missing not_cut
+
+pub returns-clause-cut : goal.returns-clause-cut
+returns-clause-cut g c cut =
+    says_cut _ _ _ _ _ _ _ _ _ _ _ _ _ _ c.report.ensures.told c.work-outcome.ensures.answer c.work-outcome.ensures.missing cut
 
 pub returns-clause-exactly : goal.returns-clause-exactly
 returns-clause-exactly g c map bytes end output told input is_answer answer =

@@ -1,11 +1,12 @@
-use Rattle.std.proofs.Common.{◌≡◌, ◌∙◌, refl, sym, subst}
+use Rattle.std.proofs.Common.{◌∙◌, sym, subst}
 use Rattle.es5_tree.specs.Spells.{EsSpells}
 use Rattle.opal_cli.specs.Translation.{script_of}
-use Rattle.opal_cli.proofs.Compiling.{took_none, compiled, front_of_script, unloaded_answer, written_answer}
+use Rattle.opal_cli.specs.Answers.{script_text}
+use Rattle.opal_cli.proofs.Compiling.{compiled, front_of_load, unloaded_answer, written_answer}
 use Rattle.opal_cli.proofs.compile.compile.Goals as goal
 
 pub returns-in-Err-clause-answer : goal.returns-in-Err-clause-answer
-returns-in-Err-clause-answer g c map e a = unloaded_answer map c.args.file.now c.in-Err.fault _ _ (c.in-Err.ensures.loads map e) c.unloaded.ensures a
+returns-in-Err-clause-answer g c map e a = unloaded_answer script_text map c.args.file.now c.in-Err.fault _ _ (c.in-Err.ensures.loads map e) c.unloaded.ensures a
 
 pub returns-in-Ok-write_all-clause-headline : goal.returns-in-Ok-write_all-clause-headline
 returns-in-Ok-write_all-clause-headline g c map e d =
@@ -16,15 +17,15 @@ returns-in-Ok-write_all-clause-headline g c map e d =
 
 pub returns-in-Ok-write_all-clause-answer : goal.returns-in-Ok-write_all-clause-answer
 returns-in-Ok-write_all-clause-answer g c map e a =
-    written_answer map c.args.file.now c.in-Ok.bundle c.as_slice.result.now _ _ (c.in-Ok.ensures.loads map e)
+    written_answer script_text map c.args.file.now c.in-Ok.bundle c.as_slice.result.now _ _ (c.in-Ok.ensures.loads map e)
     (c.as_slice.ensures ∙ c.in-Ok-script_text.ensures.text) c.in-Ok-write_all.ensures.took
 
 pub returns-in-Ok-write_all-clause-front : goal.returns-in-Ok-write_all-clause-front
 returns-in-Ok-write_all-clause-front g c map e loaded l =
-    front_of_script map c.args.file.now c.in-Ok.bundle c.as_slice.result.now loaded _ _ c.one_load.ensures.one_load (c.in-Ok.ensures.loads map e)
+    front_of_load script_text map c.args.file.now c.in-Ok.bundle c.as_slice.result.now loaded _ _ c.one_load.ensures.one_load (c.in-Ok.ensures.loads map e)
     (c.as_slice.ensures ∙ c.in-Ok-script_text.ensures.text) l c.write_all.ensures.front
 
 pub returns-clause-front : goal.returns-clause-front
 returns-clause-front g c map e loaded l =
-    front_of_script map c.args.file.now c.in-Ok.bundle c.as_slice.result.now loaded _ _ c.one_load.ensures.one_load (c.in-Ok.ensures.loads map e)
+    front_of_load script_text map c.args.file.now c.in-Ok.bundle c.as_slice.result.now loaded _ _ c.one_load.ensures.one_load (c.in-Ok.ensures.loads map e)
     (c.as_slice.ensures ∙ c.in-Ok-script_text.ensures.text) l c.write_all.ensures.front

@@ -1,6 +1,6 @@
-use Rattle.std.proofs.Common.{◌≡◌, arith, refl, sym, ◌∙◌}
+use Rattle.std.proofs.Common.{refl, sym, ◌∙◌}
 use mathlib.Core.Logic.{inl, inr}
-use Rattle.opal_cli.specs.Ends.{End, OutOfMemory, end_of}
+use Rattle.opal_cli.specs.Ends.{OutOfMemory, end_of}
 use Rattle.opal_cli.proofs.Reports.{tried, fault_line, memory_is_no_fault}
 use Rattle.opal_cli.proofs.report.report.Goals as goal
 

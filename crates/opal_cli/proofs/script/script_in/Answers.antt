@@ -1,6 +1,6 @@
-use Rattle.std.proofs.Common.{◌≡◌, refl, sym, subst}
+use Rattle.std.proofs.Common.{refl, subst}
 use Rattle.opal_cli.specs.Execution.{ReadsScript}
-use Rattle.opal_cli.proofs.Loads.{told_content}
+use Rattle.require_bundles.proofs.Loads.{told_content}
 use Rattle.opal_cli.proofs.Scripts.{script_in}
 use Rattle.opal_cli.proofs.script.script_in.Goals as goal
 

@@ -1,4 +1,4 @@
-use Rattle.std.proofs.Common.{◌≡◌, ◌≤◌, ℕ, ◌-◌, suc, eqb, List, [], ◌∷◌, length, get_or, refl, ◌∙◌, ap, sym, arith}
+use Rattle.std.proofs.Common.{◌≡◌, ◌≤◌, ℕ, ◌-◌, eqb, List, [], ◌∷◌, length, get_or, refl, ◌∙◌, ap, sym, arith}
 use Rattle.ruby_meaning.specs.Eval.{ends_line}
 use Rattle.opal_cli.proofs.translate.ends_line.Goals as goal
 

@@ -1,7 +1,7 @@
-use Rattle.std.proofs.Common.{◌≡◌, refl, sym, subst}
-use Rattle.opal_cli.specs.Loading.{ReadsTo}
-use Rattle.opal_cli.proofs.Loads.{loads_to, told_content}
-use Rattle.opal_cli.proofs.load.load.Goals as goal
+use Rattle.std.proofs.Common.{refl, subst}
+use Rattle.require_bundles.specs.Loading.{ReadsTo}
+use Rattle.require_bundles.proofs.Loads.{loads_to, told_content}
+use Rattle.require_bundles.proofs.bundle.load.Goals as goal
 
 pub returns-in-Ok-clause-loads : goal.returns-in-Ok-clause-loads
 returns-in-Ok-clause-loads g c map e =
