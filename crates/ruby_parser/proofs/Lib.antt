@@ -18,7 +18,7 @@ pub mod CallLevels
 pub mod PartTurns
 pub mod CommandBegins
 pub mod NoLevel
-pub mod Parts
+pub mod PartsRead
 pub mod SightsRead
 pub mod JumpBegins
 pub mod StatementLists

@@ -2,7 +2,7 @@ pub mod Ahead
 pub mod Shown
 pub mod Named
 pub mod NoLevel
-pub mod Parts
+pub mod TreeRules
 pub mod Sights
 pub mod Operators
 pub mod Assignments

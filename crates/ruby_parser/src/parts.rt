@@ -6,11 +6,12 @@ ghost use Rattle.ruby_meaning.specs.Grammar.Table.{table};
 ghost use Rattle.ruby_meaning.specs.declared.production.Production.TheVariants as p;
 ghost use Rattle.ruby_parser.specs.Ahead.{ahead, GivesNode};
 ghost use Rattle.ruby_parser.specs.Named.{GivesPart, Nests, NestsBelow, production_of};
-ghost use Rattle.ruby_parser.specs.Parts as spec;
+ghost use Rattle.ruby_parser.specs.TreeRules as spec;
 
+use crate::args::Args;
 use crate::cursor::Cursor;
 use crate::names::{Parser, Tree};
-use crate::value::Reading;
+use crate::value::{Body, Reading, Value};
 use descent::Fail;
 use ruby_meaning::{Node, Part, Production};
 use std::alloc::Global;
@@ -37,6 +38,42 @@ fn tree_of(production: Production) -> Option<Tree>
         Production::PowerOperand => Some(Tree::PowerOperand),
         Production::NotOperand => Some(Tree::NotOperand),
         _ => None,
+    }
+}
+
+fn of_tree(read: Result<Node, Fail>) -> Result<Reading, Fail>
+    ensures { result ≡ spec.of_tree read }
+{
+    match read {
+        Ok(node) => Ok(Reading::Tree(node)),
+        Err(fail) => Err(fail),
+    }
+}
+
+fn of_value(read: Result<Value, Fail>) -> Result<Reading, Fail>
+    ensures { result ≡ spec.of_value read }
+{
+    match read {
+        Ok(value) => Ok(Reading::Value(value)),
+        Err(fail) => Err(fail),
+    }
+}
+
+fn of_body(read: Result<Body, Fail>) -> Result<Reading, Fail>
+    ensures { result ≡ spec.of_body read }
+{
+    match read {
+        Ok(body) => Ok(Reading::Body(body)),
+        Err(fail) => Err(fail),
+    }
+}
+
+fn of_args(read: Result<Args, Fail>) -> Result<Reading, Fail>
+    ensures { result ≡ spec.of_args read }
+{
+    match read {
+        Ok(args) => Ok(Reading::Args(args)),
+        Err(fail) => Err(fail),
     }
 }
 
@@ -69,18 +106,17 @@ impl<F: Fn(Global, &mut Cursor<'_>, Part, u32) -> Result<Reading, Fail> + Copy> 
     }
 
     /// Statements, at their own level.
-    #[tactic(auto, using(crate::proofs::Parts::rule_is))]
     pub fn statements_part(&self, cursor: &mut Cursor<'_>, part: Part) -> Result<Reading, Fail>
         requires below { NestsBelow self.now.depth (F.pre self.now.names) (F.post self.now.names) }
         requires statements { part.production ≡ p.Statements }
         requires rescue { part.in_rescue ≡ self.now.in_rescue }
         ensures { GivesPart part (read_named table (suc self.now.depth) part (ahead cursor.old)) result (ahead cursor.new) }
     {
-        Ok(Reading::Body(self.statement_list(cursor)?))
+        let statements = self.statement_list(cursor);
+        of_body(statements)
     }
 
     /// What a production gives but for statements, at the level of a node that is made here.
-    #[tactic(auto, using(crate::proofs::Parts::rule_is, crate::proofs::Parts::tree_part, crate::proofs::Parts::tree_fails))]
     pub fn part_here(&self, cursor: &mut Cursor<'_>, part: Part) -> Result<Reading, Fail>
         requires below { Nests self.now.depth (F.pre self.now.names) (F.post self.now.names) }
         requires takes { part.takes_do ≡ self.now.takes_do }
@@ -88,16 +124,16 @@ impl<F: Fn(Global, &mut Cursor<'_>, Part, u32) -> Result<Reading, Fail> + Copy> 
         ensures { GivesPart part (read_named table (suc self.now.depth) part (ahead cursor.old)) result (ahead cursor.new) }
     {
         match part.production {
-            Production::Otherwise => Ok(Reading::Body(self.otherwise(cursor)?)),
-            Production::OneValue => Ok(Reading::Value(self.one_value_here(cursor)?)),
-            Production::NestedValue => Ok(Reading::Value(self.nested_value_here(cursor)?)),
-            Production::Arguments(blocks) => Ok(Reading::Args(self.arguments(cursor, blocks)?)),
+            Production::Otherwise => of_body(self.otherwise(cursor)),
+            Production::OneValue => of_value(self.one_value_here(cursor)),
+            Production::NestedValue => of_value(self.nested_value_here(cursor)),
+            Production::Arguments(blocks) => of_args(self.arguments(cursor, blocks)),
             Production::CommandArguments(blocks) => {
-                Ok(Reading::Args(self.arguments_of_command(cursor, blocks)?))
+                of_args(self.arguments_of_command(cursor, blocks))
             }
-            Production::MorePairs(blocks) => Ok(Reading::Args(self.pairs(cursor, blocks)?)),
+            Production::MorePairs(blocks) => of_args(self.pairs(cursor, blocks)),
             production => match tree_of(production) {
-                Some(tree) => Ok(Reading::Tree(self.tree_here(cursor, tree)?)),
+                Some(tree) => of_tree(self.tree_here(cursor, tree)),
                 None => Err(Fail::NoMemory),
             },
         }
