@@ -11,10 +11,10 @@ ghost use Rattle.es5_parser.specs.Gives.{ahead};
 ghost use Rattle.es5_parser.specs.Loops.{accesses, next_argument, more_arguments};
 ghost use Rattle.es5_parser.specs.Named.{Nests, GivesAccess, GivesExpr, GivesExprs, GivesOperand, shown_operand};
 
-use descent::Fail;
 use crate::making::{accessed, fits};
 use crate::names::{Access, Operand, Parser, Part, Reading};
 use crate::tokens::Tokens;
+use descent::Fail;
 use es5_tree::{EsExpr, EsMark, Level, Terminal};
 use sqlite_items::Items;
 use std::alloc::Global;

@@ -9,10 +9,10 @@ ghost use Rattle.es5_parser.specs.Gives.{ahead};
 ghost use Rattle.es5_parser.specs.Loops.{items_from};
 ghost use Rattle.es5_parser.specs.Named.{Nests, GivesExprs, GivesOperand};
 
-use descent::Fail;
 use crate::making::expr;
 use crate::names::{Operand, Parser, Part, Reading};
 use crate::tokens::Tokens;
+use descent::Fail;
 use es5_tree::{EsExpr, EsKind, EsMark, Level, Terminal};
 use sqlite_items::Items;
 use std::alloc::Global;

@@ -8,10 +8,10 @@ ghost use Rattle.es5_parser.specs.Gives.{ahead};
 ghost use Rattle.es5_parser.specs.Loops.{conditional_behind, assigned_behind};
 ghost use Rattle.es5_parser.specs.Named.{Nests, GivesChoices, GivesExpr, GivesOperand, shown_operand};
 
-use descent::Fail;
 use crate::making::{assigned, conditional, fits, is_target};
 use crate::names::{Choices, Operand, Parser, Part, Reading};
 use crate::tokens::Tokens;
+use descent::Fail;
 use es5_tree::{EsExpr, EsMark, Level, Terminal};
 use std::alloc::Global;
 

@@ -12,10 +12,10 @@ ghost use Rattle.es5_parser.specs.Gives.{ahead};
 ghost use Rattle.es5_parser.specs.Loops.{one_statement, more_statements};
 ghost use Rattle.es5_parser.specs.Named.{Nests, GivesCaught, GivesHandlers, GivesStmt, GivesStmtAlone, GivesStmts};
 
-use descent::Fail;
 use crate::making::tried;
 use crate::names::{Caught, Handlers, Parser, Part, Reading, Statement};
 use crate::tokens::Tokens;
+use descent::Fail;
 use es5_tree::{EsMark, EsStmt, EsStmts, Keyword, Terminal};
 use std::alloc::Global;
 

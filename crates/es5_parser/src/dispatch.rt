@@ -8,10 +8,10 @@ ghost use Rattle.es5_parser.specs.Gives.{ahead};
 ghost use Rattle.es5_parser.specs.Loops.{plain_statement, statement_or_jump};
 ghost use Rattle.es5_parser.specs.Named.{Nests, GivesBranch, GivesStmt, GivesStmts};
 
-use descent::Fail;
 use crate::making::{branch_fits, long_if, short_if};
 use crate::names::{Branch, Parser, Part, Reading, Statement};
 use crate::tokens::Tokens;
+use descent::Fail;
 use es5_tree::{EsMark, EsStmts, Keyword, Terminal};
 use std::alloc::Global;
 

@@ -8,8 +8,8 @@ ghost use Rattle.grammar.specs.Readers.{read_named};
 ghost use Rattle.es5_parser.specs.Gives.{ahead};
 ghost use Rattle.es5_parser.specs.Named.{Nests, GivesExpr, GivesStmt};
 
-use descent::Fail;
 use crate::tokens::Tokens;
+use descent::Fail;
 use es5_tree::{EsExpr, EsStmt, EsStmts, EsToken, Level};
 use sqlite_items::Items;
 use std::alloc::Global;

@@ -10,10 +10,10 @@ ghost use Rattle.es5_parser.specs.Gives.{ahead};
 ghost use Rattle.es5_parser.specs.Loops.{binary_part, binaries, logical_part, logicals};
 ghost use Rattle.es5_parser.specs.Named.{Nests, GivesExpr, GivesOperand, shown_operand};
 
-use descent::Fail;
 use crate::making::{binary, fits, joined};
 use crate::names::{Operand, Parser, Part, Reading};
 use crate::tokens::Tokens;
+use descent::Fail;
 use es5_tree::{EsExpr, EsMark, Level, Terminal};
 use std::alloc::Global;
 

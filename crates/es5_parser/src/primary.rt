@@ -7,10 +7,10 @@ ghost use Rattle.es5_tree.specs.Grammar.Table.{table};
 ghost use Rattle.es5_parser.specs.Gives.{ahead};
 ghost use Rattle.es5_parser.specs.Named.{Nests, GivesOperand};
 
-use descent::Fail;
 use crate::making::{expr, is_member, negated, token_kind};
 use crate::names::{Operand, Parser, Part, Reading};
 use crate::tokens::Tokens;
+use descent::Fail;
 use es5_tree::{EsKind, EsMark, Keyword, Level, Terminal};
 use std::alloc::Global;
 

@@ -7,10 +7,10 @@ ghost use Rattle.es5_tree.specs.Grammar.Table.{table};
 ghost use Rattle.es5_parser.specs.Gives.{ahead};
 ghost use Rattle.es5_parser.specs.Named.{Nests, GivesExpr, GivesStmt};
 
-use descent::Fail;
 use crate::making::name_of;
 use crate::names::{Parser, Part, Reading, Statement};
 use crate::tokens::Tokens;
+use descent::Fail;
 use es5_tree::{EsExpr, EsMark, EsStmt, Keyword, Level, Terminal};
 use sqlite_items::Boxed;
 use std::alloc::Global;

@@ -12,8 +12,8 @@ ghost use Rattle.descent.specs.Sets.{one_of};
 ghost use Rattle.es5_parser.specs.Gives.{ahead, GivesToken, codes};
 
 use crate::cursor::is_directive;
-use descent::{Fail, either};
 use crate::terminal::{code_of, terminal_of};
+use descent::{Fail, either};
 use es5_tree::{EsMark, EsToken, Keyword, Terminal};
 
 /// The tokens that are left.

@@ -75,8 +75,10 @@ module _ (d r : Bool) where
 
   prim_value : Value (prim r d)
   unfolding table prim word_value keyword_value integer_value text interpolated word_list ivar_value gvar_value top_constant name_call constant_value parenthesized array hash_value yield_value super_value arrow_value keyword_form if_value unless_value while_value until_value case_value class_value module_value def_value begin_value body_behind
-  prim_value = (((tt, (tt, (tt, (tt, tt)))), (tt, (tt, (tt, (tt, (tt, (tt, (tt, (refl, (tt, (paren_only, (tt, (tt, (tt, (tt, (tt, form_stops)))))))))))))))),
-      (inl (refl, statements_stop true r), (inl (refl, statements_stop true r), form_opens)))
+  prim_value = (
+    ((tt, (tt, (tt, (tt, tt)))), (tt, (tt, (tt, (tt, (tt, (tt, (tt, (refl, (tt, (paren_only, (tt, (tt, (tt, (tt, (tt, form_stops)))))))))))))))),
+    (inl (refl, statements_stop true r), (inl (refl, statements_stop true r), form_opens)),
+  )
 
   post_value : Value (post r d)
   unfolding table post

@@ -24,10 +24,10 @@ whole (Err fail.Refused) all left = stopped all left
 
 abbrev pub ended : Result Reading Fail → ℕ → Result Bool NoMemory
 ended (Ok r) left = Ok (nat_eq left 0)
-ended (Err fail.NoMemory) left = Err (record { })
+ended (Err fail.NoMemory) left = Err (record {})
 ended (Err fail.Refused) left = Ok (nat_eq left 0)
 
 abbrev pub spelled : Result Body Halt → Result Bool NoMemory
 spelled (Ok b) = Ok true
 spelled (Err (halt.At at)) = Ok false
-spelled (Err halt.NoMemory) = Err (record { })
+spelled (Err halt.NoMemory) = Err (record {})

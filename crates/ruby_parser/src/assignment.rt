@@ -9,10 +9,10 @@ ghost use Rattle.ruby_parser.specs.Named.{GivesValue, MakesValue, Nests, ReadsNo
 ghost use Rattle.ruby_parser.specs.Shown.{shown_value, written_code};
 
 use crate::cursor::{Cursor, Sight};
-use descent::Fail;
 use crate::making::{ascii, fits, node, nodes, start};
 use crate::names::{Parser, Tree};
 use crate::value::{Reading, Value, Written};
+use descent::Fail;
 use opal_base::{Pos, Span};
 use ruby_meaning::{Base, Kind, Mark, Node, Operator, Part, Sign, TokenKind};
 use sqlite_items::{Boxed, Items};

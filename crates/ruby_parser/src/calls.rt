@@ -13,14 +13,14 @@ ghost use Rattle.ruby_parser.specs.CallParts as spec;
 ghost use Rattle.ruby_parser.specs.Named.{Nests, Reads, ReadsNode};
 ghost use Rattle.ruby_parser.specs.Shown.{shown_args, shown_body};
 
+use crate::args::Args;
 use crate::cursor::{Cursor, Sight};
-use descent::Fail;
 use crate::making::{filled, node, start, tokens};
 use crate::names::Parser;
-use crate::primary::VALUES;
 use crate::passed::{closing, has_pass};
-use crate::args::Args;
+use crate::primary::VALUES;
 use crate::value::{Body, Reading};
+use descent::Fail;
 use ruby_meaning::{Kind, Mark, Node, Params, Part, Sign, Word};
 use sqlite_items::Boxed;
 use std::alloc::Global;

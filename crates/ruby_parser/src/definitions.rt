@@ -17,11 +17,11 @@ ghost use Rattle.ruby_parser.specs.Named.{GivesBody, many_from, Nests, Reads, Re
 ghost use Rattle.ruby_parser.specs.Shown.{shown_body, shown_value};
 
 use crate::cursor::{Cursor, Sight};
-use descent::Fail;
 use crate::making::{fits, method_name, node, span_of, start, to_end, tokens, units};
 use crate::names::{Parser, Tree};
 use crate::parameters::{skip, variable_name};
 use crate::value::{Body, Reading, Value, Written};
+use descent::Fail;
 use opal_base::{Pos, Span, Units};
 use ruby_meaning::{
     Base, Kind, Mark, ModuleForm, Node, Nodes, Params, Part, Production, Sign, TokenKind, Word,

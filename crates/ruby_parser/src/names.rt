@@ -9,10 +9,10 @@ ghost use Rattle.grammar.specs.Readers.{read_named};
 ghost use Rattle.ruby_parser.specs.Ahead.{ahead, GivesNode};
 ghost use Rattle.ruby_parser.specs.Named.{Nests, NestsBelow, GivesBody, GivesValue, GivesArgs, GivesPart, is_read, production_of, read_plain, read_tree};
 
-use crate::cursor::Cursor;
-use descent::Fail;
 use crate::args::Args;
+use crate::cursor::Cursor;
 use crate::value::{Body, Reading, Value, Written};
+use descent::Fail;
 use ruby_meaning::{Node, Part, Production};
 use std::alloc::Global;
 

@@ -10,10 +10,10 @@ ghost use Rattle.ruby_parser.specs.Operators as spec;
 ghost use Rattle.ruby_parser.specs.Shown.{shown_value};
 
 use crate::cursor::{Cursor, Sight};
-use descent::Fail;
 use crate::making::{ascii, fits, from_token, method_name, node, nodes, start};
 use crate::names::{Parser, Tree};
 use crate::value::{Reading, Value, Written};
+use descent::Fail;
 use ruby_meaning::{Kind, Mark, Node, Part, Sign, TokenKind, Word};
 use sqlite_items::{Boxed, Items};
 use std::alloc::Global;

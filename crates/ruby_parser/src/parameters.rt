@@ -19,10 +19,10 @@ ghost use Rattle.ruby_parser.specs.Parameters as spec;
 ghost use Rattle.ruby_parser.specs.Parameters.{GivesParams};
 
 use crate::cursor::{Cursor, Sight};
-use descent::Fail;
 use crate::making::units;
 use crate::names::{Parser, Tree};
 use crate::value::Reading;
+use descent::Fail;
 use opal_base::{Names, Units};
 use ruby_meaning::{Mark, Node, Nodes, Params, Part, Rest, Sign, Slot, Slots, TokenKind};
 use sqlite_items::Items;

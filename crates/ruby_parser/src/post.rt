@@ -12,12 +12,12 @@ ghost use Rattle.ruby_parser.specs.Shown.{shown_value, written_code};
 
 use crate::calls::Tail;
 use crate::cursor::{Cursor, Sight};
-use descent::Fail;
 use crate::making::{ascii, fits, method_name, node, span_of, start, to_end, units};
 use crate::names::Parser;
 use crate::passed::{ends_in_sign, has_pass};
 use crate::value::{Reading, Value, Written};
 use crate::values::{call_node, end_of};
+use descent::Fail;
 use opal_base::{Span, Units};
 use ruby_meaning::{Base, Kind, Mark, Node, Part, Sign, TokenKind};
 use sqlite_items::Boxed;

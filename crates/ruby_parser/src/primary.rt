@@ -11,12 +11,12 @@ ghost use Rattle.ruby_parser.specs.Literals as spec;
 ghost use Rattle.ruby_parser.specs.Named.{Nests, Reads, ReadsNode, ReadsValue};
 
 use crate::cursor::Cursor;
-use descent::Fail;
+use crate::hash::items_of;
 use crate::making::{filled, integer, node, span_of, start, tokens, units};
 use crate::names::{Parser, Tree};
-use crate::hash::items_of;
 use crate::passed::closing;
 use crate::value::{Reading, Value, Written};
+use descent::Fail;
 use ruby_meaning::{Base, Kind, Literal, Mark, Node, Nodes, Part, Sign, Word};
 use std::alloc::Global;
 

@@ -11,8 +11,8 @@ ghost use Rattle.ruby_parser.specs.Endings as endings;
 ghost use Rattle.ruby_parser.specs.Refusing as spec;
 
 use crate::cursor::Sight;
-use crate::value::Body;
 use crate::read::{Halt, MOST_LEVELS, is_front, read_list};
+use crate::value::Body;
 use descent::either;
 use opal_base::{NoMemory, Pos};
 use ruby_meaning::{Construct, Mark, Sign, Token, TokenKind, Word};
@@ -61,9 +61,7 @@ fn is_jump(sign: Option<Sign>) -> bool
 {
     matches!(
         sign,
-        Some(
-            Sign::Keyword(Word::Return) | Sign::Keyword(Word::Break) | Sign::Keyword(Word::Next)
-        )
+        Some(Sign::Keyword(Word::Return) | Sign::Keyword(Word::Break) | Sign::Keyword(Word::Next))
     )
 }
 
@@ -141,11 +139,7 @@ pub fn stand_in() -> Token
 }
 
 /// Puts tokens of these signs behind others.
-fn extend<'a>(
-    sights: &mut Vec<Sight<'a>>,
-    token: &'a Token,
-    signs: &[Sign],
-) -> Result<(), NoMemory>
+fn extend<'a>(sights: &mut Vec<Sight<'a>>, token: &'a Token, signs: &[Sign]) -> Result<(), NoMemory>
     requires { token.now ≡ spec.stand_in }
     ensures { spec.Extends signs.now sights.old sights.new result }
 {
@@ -159,7 +153,12 @@ fn extend<'a>(
 }
 
 /// Whether tokens of these signs could stand behind others.
-fn may_follow<'a>(alloc: Global, spare: &'a Token, front: &[Sight<'a>], signs: &[Sign]) -> Result<bool, NoMemory>
+fn may_follow<'a>(
+    alloc: Global,
+    spare: &'a Token,
+    front: &[Sight<'a>],
+    signs: &[Sign],
+) -> Result<bool, NoMemory>
     requires spare { spare.now ≡ spec.stand_in }
     ensures { spec.TellsIf (spec.Follows (map see front.now) signs.now) result }
 {
@@ -171,16 +170,27 @@ fn may_follow<'a>(alloc: Global, spare: &'a Token, front: &[Sight<'a>], signs: &
 }
 
 const BLOCK_PASS: [Sign; 1] = [Sign::Op(Mark::Ampersand)];
+
 const SPLAT: [Sign; 1] = [Sign::Marked(Mark::Star)];
+
 const LABEL: [Sign; 1] = [Sign::Label];
+
 const WHEN: [Sign; 1] = [Sign::Keyword(Word::When)];
+
 const END: [Sign; 1] = [Sign::Keyword(Word::End)];
+
 const UNLESS: [Sign; 1] = [Sign::Keyword(Word::Unless)];
+
 const ALIAS: [Sign; 1] = [Sign::Keyword(Word::Alias)];
+
 const NEXT_ALIAS: [Sign; 2] = [Sign::Op(Mark::Semicolon), Sign::Keyword(Word::Alias)];
 
 /// Whether a parameter or an argument may start behind these tokens.
-fn argument_may_start<'a>(alloc: Global, spare: &'a Token, front: &[Sight<'a>]) -> Result<bool, NoMemory>
+fn argument_may_start<'a>(
+    alloc: Global,
+    spare: &'a Token,
+    front: &[Sight<'a>],
+) -> Result<bool, NoMemory>
     requires spare { spare.now ≡ spec.stand_in }
     ensures { spec.TellsIf (spec.Starts (map see front.now)) result }
 {
@@ -196,7 +206,11 @@ fn argument_may_start<'a>(alloc: Global, spare: &'a Token, front: &[Sight<'a>]) 
 }
 
 /// Whether they end behind the subject of a `case`.
-fn is_behind_subject<'a>(alloc: Global, spare: &'a Token, front: &[Sight<'a>]) -> Result<bool, NoMemory>
+fn is_behind_subject<'a>(
+    alloc: Global,
+    spare: &'a Token,
+    front: &[Sight<'a>],
+) -> Result<bool, NoMemory>
     requires spare { spare.now ≡ spec.stand_in }
     ensures { spec.TellsIf (spec.BehindSubject (map see front.now)) result }
 {
@@ -211,7 +225,11 @@ fn is_behind_subject<'a>(alloc: Global, spare: &'a Token, front: &[Sight<'a>]) -
 }
 
 /// Whether they end behind a statement.
-fn is_behind_statement<'a>(alloc: Global, spare: &'a Token, front: &[Sight<'a>]) -> Result<bool, NoMemory>
+fn is_behind_statement<'a>(
+    alloc: Global,
+    spare: &'a Token,
+    front: &[Sight<'a>],
+) -> Result<bool, NoMemory>
     requires spare { spare.now ≡ spec.stand_in }
     ensures { spec.TellsIf (spec.BehindStatement (map see front.now)) result }
 {
@@ -307,7 +325,12 @@ fn is_too_deep(alloc: Global, sights: &[Sight<'_>], at: usize) -> Result<bool, N
 }
 
 /// The construct of a refusal at an index.
-pub fn construct_at<'a>(alloc: Global, spare: &'a Token, sights: &[Sight<'a>], at: usize) -> Result<Construct, NoMemory>
+pub fn construct_at<'a>(
+    alloc: Global,
+    spare: &'a Token,
+    sights: &[Sight<'a>],
+    at: usize,
+) -> Result<Construct, NoMemory>
     requires spare { spare.now ≡ spec.stand_in }
     requires within { at ≤ length sights.now }
     ensures { IfOk result (λ c. spec.ConstructIs (map see sights.now) at c) }

@@ -17,14 +17,12 @@ ghost use Rattle.ruby_parser.specs.Parameters.{GivesParams};
 
 use crate::calls::{BlockParts, Closed, Tail};
 use crate::cursor::{Cursor, Sight};
-use descent::Fail;
+use crate::hash::items_of;
 use crate::making::{boxed_if, filled, node, span_of, start, to_end, tokens, units};
 use crate::names::Parser;
-use crate::hash::items_of;
-use crate::passed::{
-    Passed, closing, ends_in_sign, has_pass, is_empty, no_parameters, parts_of,
-};
+use crate::passed::{Passed, closing, ends_in_sign, has_pass, is_empty, no_parameters, parts_of};
 use crate::value::{Body, Reading, Value, Written};
+use descent::Fail;
 use opal_base::{Pos, Span, Units};
 use ruby_meaning::{Base, Kind, Literal, Mark, Node, Params, Part, Sign, Word};
 use sqlite_items::{Boxed, Items};
