@@ -256,11 +256,7 @@ fn definition(line: &mut Line, kind: &Kind) -> Done {
             parameters(line, params)?;
             part(line, body)
         }
-        Kind::ModuleDef {
-            form,
-            name,
-            body,
-        } => {
+        Kind::ModuleDef { form, name, body } => {
             module(line, form)?;
             line.word(name)?;
             part(line, body)
@@ -279,7 +275,11 @@ fn definition(line: &mut Line, kind: &Kind) -> Done {
             line.words(names)
         }
         Kind::Require { name, relative } => {
-            let form = if *relative { "require_relative" } else { "require" };
+            let form = if *relative {
+                "require_relative"
+            } else {
+                "require"
+            };
             named(line, form, name)
         }
         _ => Ok(()),
