@@ -1,6 +1,7 @@
 -- How deep the nodes are that the productions make.
 use Rattle.std.proofs.Common.{◌≡◌, ℕ, zero, suc, ◌+◌, ◌≤◌, max, Bool, true, false, List, [], ◌∷◌, map, Option, Some, None, refl, sym, ap, ◌∙◌, arith, true≢false}
 use Rattle.std.specs.Prelude.{if◌then◌else◌, ◌||◌, nat_eq, is_some}
+use Rattle.std.specs.Option.{option_map}
 use Rattle.opal_base.specs.declared.place.Pos.{Pos}
 use Rattle.opal_base.specs.declared.place.Span.{Span}
 use Rattle.grammar.specs.Forms.{deepest}
@@ -414,6 +415,83 @@ place_layer (Kind-F.Seq items) h = absurd (true≢false (sym h))
 place_layer (Kind-F.Require name relative) h = absurd (true≢false (sym h))
 place_layer (Kind-F.Prim name args) h = absurd (true≢false (sym h))
 
+-- ---- a body with clauses
+
+abbrev pub body_depth : Option (Node × (List Node × (Option Node × Option Node))) → ℕ
+body_depth None = 0
+body_depth (Some x) = max (depth_of x.0) (max (deepest depth_of (x.1.0)) (max (deep_if depth_of (x.1.1.0)) (deep_if depth_of (x.1.1.1))))
+
+body_layer : (l : act.Layer) → is_some (act.body_in l) ≡ true → layer_depth l ≡ body_depth (act.body_in l)
+body_layer (Kind-F.Lit which) h = absurd (true≢false (sym h))
+body_layer Kind-F.SelfRef h = absurd (true≢false (sym h))
+body_layer (Kind-F.Int value) h = absurd (true≢false (sym h))
+body_layer (Kind-F.Str units) h = absurd (true≢false (sym h))
+body_layer (Kind-F.Interp parts) h = absurd (true≢false (sym h))
+body_layer (Kind-F.ArrayLit items) h = absurd (true≢false (sym h))
+body_layer (Kind-F.HashLit keys values) h = absurd (true≢false (sym h))
+body_layer (Kind-F.RangeLit low high without_end) h = absurd (true≢false (sym h))
+body_layer (Kind-F.IvarGet name) h = absurd (true≢false (sym h))
+body_layer (Kind-F.GlobalGet name) h = absurd (true≢false (sym h))
+body_layer (Kind-F.LocalGet name) h = absurd (true≢false (sym h))
+body_layer (Kind-F.ConstGet base name) h = absurd (true≢false (sym h))
+body_layer (Kind-F.LocalSet name value) h = absurd (true≢false (sym h))
+body_layer (Kind-F.IvarSet name value) h = absurd (true≢false (sym h))
+body_layer (Kind-F.GlobalSet name value) h = absurd (true≢false (sym h))
+body_layer (Kind-F.ConstSet name value) h = absurd (true≢false (sym h))
+body_layer (Kind-F.MultiSet targets value) h = absurd (true≢false (sym h))
+body_layer (Kind-F.AttrSet receiver name args value) h = absurd (true≢false (sym h))
+body_layer (Kind-F.AttrOpSet receiver name args op value) h = absurd (true≢false (sym h))
+body_layer (Kind-F.Call receiver name args block marked) h = absurd (true≢false (sym h))
+body_layer (Kind-F.Super args block) h = absurd (true≢false (sym h))
+body_layer (Kind-F.Yield args) h = absurd (true≢false (sym h))
+body_layer (Kind-F.Block params body) h = absurd (true≢false (sym h))
+body_layer (Kind-F.BlockPass value) h = absurd (true≢false (sym h))
+body_layer (Kind-F.Lambda params body) h = absurd (true≢false (sym h))
+body_layer (Kind-F.Splat value) h = absurd (true≢false (sym h))
+body_layer (Kind-F.Not value) h = absurd (true≢false (sym h))
+body_layer (Kind-F.And left right) h = absurd (true≢false (sym h))
+body_layer (Kind-F.Or left right) h = absurd (true≢false (sym h))
+body_layer (Kind-F.If cond first second) h = absurd (true≢false (sym h))
+body_layer (Kind-F.While cond body body_first) h = absurd (true≢false (sym h))
+body_layer (Kind-F.Case subject whens otherwise) h = absurd (true≢false (sym h))
+body_layer (Kind-F.When tests body) h = absurd (true≢false (sym h))
+body_layer (Kind-F.Begin body clauses None None) h = omega (arith, d.highest_of_all clauses)
+body_layer (Kind-F.Begin body clauses None (Some y)) h = omega (arith, d.highest_of_all clauses)
+body_layer (Kind-F.Begin body clauses (Some x) None) h = omega (arith, d.highest_of_all clauses)
+body_layer (Kind-F.Begin body clauses (Some x) (Some y)) h = omega (arith, d.highest_of_all clauses)
+body_layer (Kind-F.Rescue classes name body) h = absurd (true≢false (sym h))
+body_layer Kind-F.Retry h = absurd (true≢false (sym h))
+body_layer Kind-F.Reraise h = absurd (true≢false (sym h))
+body_layer (Kind-F.Jump which value) h = absurd (true≢false (sym h))
+body_layer (Kind-F.Def on name params body) h = absurd (true≢false (sym h))
+body_layer (Kind-F.ModuleDef form name body) h = absurd (true≢false (sym h))
+body_layer (Kind-F.Alias new old) h = absurd (true≢false (sym h))
+body_layer (Kind-F.Undef names) h = absurd (true≢false (sym h))
+body_layer (Kind-F.Seq items) h = absurd (true≢false (sym h))
+body_layer (Kind-F.Require name relative) h = absurd (true≢false (sym h))
+body_layer (Kind-F.Prim name args) h = absurd (true≢false (sym h))
+
+refilled_deep : (s : Span) (n : Node) → depth_of (act.refilled s n) ≡ depth_of n
+refilled_deep s n = if_same depth_of (depth_of n) (act.is_empty_in (act.layer n)) (act.replaced s s.from n) n (replaced_deep s s.from n) refl
+
+refilled_part : (s : Span) (o : Option Node) → deep_if depth_of (option_map (act.refilled s) o) ≡ deep_if depth_of o
+refilled_part s None = refl
+refilled_part s (Some n) = refilled_deep s n
+
+pub spread_deep : (s : Span) (n : Node) → depth_of (act.spread s n) ≡ depth_of n
+spread_deep s n = by (act.body_in (act.layer n)) (λ h. depth_layer n ∙ ap suc (body_layer (act.layer n) h))
+  where
+    by : (o : Option (Node × (List Node × (Option Node × Option Node)))) → (is_some o ≡ true → depth_of n ≡ suc (body_depth o)) → depth_of (act.spread_over s o n) ≡ depth_of n
+    by None h = replaced_deep s s.from n
+    by (Some x) h = omega (
+      arith,
+      h refl,
+      d.depth_begin (act.refilled s x.0) (x.1.0) (option_map (act.refilled s) (x.1.1.0)) (option_map (act.refilled s) (x.1.1.1)) s s.from,
+      refilled_deep s x.0,
+      refilled_part s (x.1.1.0),
+      refilled_part s (x.1.1.1),
+    )
+
 pub callee_is : (l : Node × ℕ) → is_some (act.callee l) ≡ true → depth_of l.0 ≡ suc (callee_depth (act.callee l))
 callee_is l h = by (act.is_bare l.1) h
   where
@@ -484,14 +562,14 @@ pub taken : (f : act.Place → Bool) (o : Option act.Place) → act.takes f o �
 taken f None h = absurd (true≢false (sym h))
 taken f (Some place) h = refl
 
-pub variable_deep : (l : Node × ℕ) (x : Held (Held (Seen × (Node × ℕ)))) → act.sets_variable l ≡ true → depth_of ((act.variable_updated l x).0) ≡ max (depth_of l.0) (suc (suc (depth_of (x.value.value.1.0))))
-variable_deep l x h = by (act.place_of l) h (place_is l (taken act.is_variable (act.place_of l) h))
+updated_deep : (l : Node × ℕ) (x : Seen × (Node × ℕ)) → act.sets_variable l ≡ true → depth_of ((act.operator_updated l x).0) ≡ max (depth_of l.0) (suc (suc (depth_of (x.1.0))))
+updated_deep l x h = by (act.place_of l) h (place_is l (taken act.is_variable (act.place_of l) h))
   where
     value : Node
-    value = x.value.value.1.0
+    value = x.1.0
 
     t : Seen
-    t = x.value.value.0
+    t = x.0
 
     by : (o : Option act.Place) → act.takes act.is_variable o ≡ true → depth_of l.0 ≡ suc (place_depth o) → depth_of (act.combined_place o t l.0 value) ≡ max (depth_of l.0) (suc (suc (depth_of value)))
     by None h e = absurd (true≢false (sym h))
@@ -500,6 +578,25 @@ variable_deep l x h = by (act.place_of l) h (place_is l (taken act.is_variable (
     by (Some (act.global name)) h e = omega (arith, e, update_deep (act.operator_of_kind t.token.kind) t (act.global name) l.0 value h e)
     by (Some (act.constant name)) h e = absurd (true≢false (sym h))
     by (Some (act.attribute_of receiver name args)) h e = absurd (true≢false (sym h))
+
+variable_level : (l : Node × ℕ) → act.sets_variable l ≡ true → depth_of l.0 ≡ 1
+variable_level l h = by (act.place_of l) h (place_is l (taken act.is_variable (act.place_of l) h))
+  where
+    by : (o : Option act.Place) → act.takes act.is_variable o ≡ true → depth_of l.0 ≡ suc (place_depth o) → depth_of l.0 ≡ 1
+    by None h e = absurd (true≢false (sym h))
+    by (Some (act.local name)) h e = e
+    by (Some (act.ivar name)) h e = e
+    by (Some (act.global name)) h e = e
+    by (Some (act.constant name)) h e = absurd (true≢false (sym h))
+    by (Some (act.attribute_of receiver name args)) h e = absurd (true≢false (sym h))
+
+pub variable_deep : (l : Node × ℕ) (x : Held (Held (Seen × (Node × ℕ)))) → act.sets_variable l ≡ true → depth_of ((act.variable_updated l x).0) ≡ max (depth_of l.0) (suc (suc (depth_of (x.value.value.1.0))))
+variable_deep l x h = updated_deep l x.value.value h
+
+-- where the variable is two nodes below
+pub operator_deep : (l : Node × ℕ) (x : Seen × (Node × ℕ)) → act.sets_variable l ≡ true → depth_of ((act.operator_updated l x).0) ≡ suc (suc (max (depth_of l.0) (depth_of (x.1.0))))
+operator_deep l x h = omega (arith, updated_deep l x h, variable_level l h, some_level (x.1.0))
+
 
 pub attribute_deep : (l : Node × ℕ) (x : Held (Seen × (Node × ℕ))) → act.sets_attribute l ≡ true → depth_of ((act.attribute_updated l x).0) ≡ max (depth_of l.0) (suc (depth_of (x.value.1.0)))
 attribute_deep l x h = by (act.place_of l) h (place_is l (taken act.is_attribute (act.place_of l) h))

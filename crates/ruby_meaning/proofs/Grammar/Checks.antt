@@ -35,12 +35,12 @@ use Rattle.ruby_meaning.specs.Grammar.Calls.{closed, paren, block_parameters, bl
 use Rattle.ruby_meaning.specs.declared.tree.ModuleForm.TheVariants as form
 use Rattle.ruby_meaning.specs.Grammar.Definitions.{then_sign, else_part, branch, otherwise, if_value, unless_value, loop_body, while_value, until_value, when_clause, case_value, class_header, rescue_clause, body_else, body_ensure, handlers, body_behind, begin_value, module_body, class_value, module_value, method_name, def_name, def_in_brackets, def_plain, def_value, keyword_form}
 use Rattle.ruby_meaning.specs.Grammar.Primaries.{keyword_value, word_value, integer_value, text, ivar_value, gvar_value, top_constant, word_list, embedded, interpolated, parenthesized, array, label_key, pair_in_braces, hash_value, plain_call, lambda_block, empty_brackets, full_brackets, lambda_call, called, begins_tail, name_call, arrow_parameters, plain_block, arrow_value, constant_value, super_value, yield_value, prim, dot_part, scope_part, bracket, post}
-use Rattle.ruby_meaning.specs.Grammar.Expressions.{plain, not_level, power_level, minus_level, product_level, sum_level, shift_level, comparison_level, equal_level, equality_level, and_level, or_level, range_level, ternary, updates, set_part, update_part, two_nodes, assignment, argument, command_arguments, do_beside, command_part, commanding, splat, item, more_items, splat_list, other_items, one_value, nested_value, right_side, jump_value, jump, command_level, block_argument, label_pair, arrow_pair, after_comma, finished, arguments_from, arguments, cargs, more_pairs}
+use Rattle.ruby_meaning.specs.Grammar.Expressions.{plain, calling, guarding, not_level, power_level, minus_level, product_level, sum_level, shift_level, comparison_level, equal_level, equality_level, and_level, or_level, range_level, ternary, updates, set_part, update_part, call_part, two_nodes, assignment, argument, command_arguments, do_beside, command_part, commanding, splat, item, more_items, splat_list, other_items, one_value, nested_value, right_side, jump_value, jump, command_level, block_argument, label_pair, arrow_pair, after_comma, finished, arguments_from, arguments, cargs, more_pairs}
 use Rattle.ruby_meaning.specs.Grammar.Statements.{not_expression, expression, alias_statement, undef_statement, placed, target, star_target, behind_target, next_target, more_targets, starred_set, several_set, simple, modifier, statement, line, statement_list}
 use Rattle.ruby_meaning.specs.Grammar.Table.{table, begins_command, value_goes_on, goes_on_of}
 use Rattle.ruby_meaning.specs.Grammar.Table.{continues as behind}
 use Rattle.ruby_meaning.proofs.Grammar.Depths as d
-use Rattle.ruby_meaning.proofs.Grammar.ActionDepths.{flat_option, args_depth, parameters_depth, slot_deep, name_deep, rest_deep, target_deep, parameters_deep, lambda_deep, handlers_deep, on_deep, def_deep, filled_deep, replaced_deep, items_deep, named_deep, constant_deep, super_deep, yield_deep, part_deep, selector_deep, some_level, joined_deep, statements_deep, sequence_deep, jump_deep, array_deep, assigned_deep, variable_deep, attribute_deep, command_deep, yield_command_deep, key_deep, more_deep, single_open, pair_open}
+use Rattle.ruby_meaning.proofs.Grammar.ActionDepths.{flat_option, args_depth, parameters_depth, slot_deep, name_deep, rest_deep, target_deep, parameters_deep, lambda_deep, handlers_deep, on_deep, def_deep, filled_deep, replaced_deep, spread_deep, items_deep, named_deep, constant_deep, super_deep, yield_deep, part_deep, selector_deep, some_level, joined_deep, statements_deep, sequence_deep, jump_deep, array_deep, assigned_deep, variable_deep, operator_deep, attribute_deep, command_deep, yield_command_deep, key_deep, more_deep, single_open, pair_open}
 
 binary_deep : (l : Node × ℕ) (x : Seen × Node) → depth_of ((act.binary l x).0) ≡ suc (max (depth_of l.0) (depth_of x.1))
 binary_deep l x = omega (arith, d.depth_call (Some l.0) (act.method_name x.0) (x.1 ∷ []) None None (act.nodes l.0 x.1) (act.start x.0))
@@ -106,7 +106,8 @@ modified_deep l x = by x.1
     by : (n : ℕ) → depth_of (make (act.modified_kind n l (x.0.1) s) s (act.start (x.0.0))) ≡ suc (max (depth_of l.0) (depth_of (x.0.1)))
     by zero = omega (arith, d.depth_if (x.0.1) l.0 (act.empty_at s) s (act.start (x.0.0)), empty_deep s, some_level l.0)
     by (suc zero) = omega (arith, d.depth_if (x.0.1) (act.empty_at s) l.0 s (act.start (x.0.0)), empty_deep s, some_level l.0)
-    by (suc (suc n)) = omega (arith, d.depth_while (x.0.1) l.0 (nat_eq l.1 act.begun) s (act.start (x.0.0)))
+    by (suc (suc zero)) = omega (arith, d.depth_while (x.0.1) l.0 (nat_eq l.1 act.begun) s (act.start (x.0.0)))
+    by (suc (suc (suc n))) = omega (arith, d.depth_while (act.replaced s (x.0.1).mark (x.0.1)) l.0 (nat_eq l.1 act.begun) s (act.start (x.0.0)), replaced_deep s (x.0.1).mark (x.0.1))
 
 until_deep : (x : Seen × Node) → max 0 (depth_of ((act.until_condition x).1)) ≡ suc (max 0 (depth_of x.1))
 until_deep x = omega (arith, d.depth_not x.1 (act.from_token x.0 x.1) (act.start x.0))
@@ -444,7 +445,7 @@ c_handlers r = (refl, refl, (λ x. omega arith, (refl, (refl, c_rescue r, (refl,
 
 c_begin : (r : Bool) → Checks table (begin_value r)
 unfolding table placed target star_target behind_target next_target more_targets starred_set several_set parameter_name bracketed_names more_parameters default_value no_default behind_name named_parameter bracketed_parameter rest_parameter block_parameter sign_parameter simple_parameters parameters block_parameters brace_parts do_parts body_behind def_name def_in_brackets def_plain def_value plain_call lambda_block empty_brackets full_brackets lambda_call called arrow_parameters plain_block arrow_value then_sign else_part branch otherwise if_value unless_value loop_body while_value until_value when_clause case_value class_header rescue_clause body_else body_ensure handlers begin_value module_body class_value module_value keyword_form newlines behind_newlines paren closed brace_block do_block block tail paren_tail keyword_value word_value integer_value text ivar_value gvar_value top_constant word_list embedded interpolated parenthesized array label_key pair_in_braces hash_value name_call constant_value super_value yield_value prim dot_part scope_part bracket post not_level power_level minus_level product_level sum_level shift_level comparison_level equal_level equality_level and_level or_level range_level ternary argument command_arguments command_part splat item more_items splat_list other_items one_value nested_value right_side jump_value jump command_level block_argument label_pair arrow_pair arguments_from arguments cargs more_pairs method_name not_expression expression alias_statement undef_statement simple modifier statement line statement_list
-c_begin r = (λ x. omega (arith, replaced_deep (act.tokens (x.0.0) x.1) (act.start (x.0.0)) (x.0.1.0)), (refl, (inl refl, refl, refl, (λ l x k. omega (arith, handlers_deep l x)), (refl, tt, tt), c_handlers r), tt))
+c_begin r = (λ x. omega (arith, spread_deep (act.tokens (x.0.0) x.1) (x.0.1.0)), (refl, (inl refl, refl, refl, (λ l x k. omega (arith, handlers_deep l x)), (refl, tt, tt), c_handlers r), tt))
 
 c_method : Checks table (method_name)
 unfolding table placed target star_target behind_target next_target more_targets starred_set several_set parameter_name bracketed_names more_parameters default_value no_default behind_name named_parameter bracketed_parameter rest_parameter block_parameter sign_parameter simple_parameters parameters block_parameters brace_parts do_parts body_behind def_name def_in_brackets def_plain def_value plain_call lambda_block empty_brackets full_brackets lambda_call called arrow_parameters plain_block arrow_value then_sign else_part branch otherwise if_value unless_value loop_body while_value until_value when_clause case_value class_header rescue_clause body_else body_ensure handlers begin_value module_body class_value module_value keyword_form newlines behind_newlines paren closed brace_block do_block block tail paren_tail keyword_value word_value integer_value text ivar_value gvar_value top_constant word_list embedded interpolated parenthesized array label_key pair_in_braces hash_value name_call constant_value super_value yield_value prim dot_part scope_part bracket post not_level power_level minus_level product_level sum_level shift_level comparison_level equal_level equality_level and_level or_level range_level ternary argument command_arguments command_part splat item more_items splat_list other_items one_value nested_value right_side jump_value jump command_level block_argument label_pair arrow_pair arguments_from arguments cargs more_pairs method_name not_expression expression alias_statement undef_statement simple modifier statement line statement_list
@@ -641,52 +642,80 @@ module _ (d r : Bool) (value updated : R (marked tree)) where
   abbrev sets : R (marked tree)
   sets = suffix {r = under (marked tree)} 0 (ternary d r) act.is_place (set_part d r value) act.assigned
 
+  abbrev calls_operator : R (marked tree)
+  calls_operator = suffix {r = pair leaf (marked tree)} 2 sets act.sets_variable (call_part d r updated) act.operator_updated
+
   abbrev updates_variable : R (marked tree)
-  updates_variable = suffix {r = under (under (pair leaf (marked tree)))} 0 sets act.sets_variable (two_nodes d r updated) act.variable_updated
+  updates_variable = suffix {r = under (under (pair leaf (marked tree)))} 0 calls_operator act.sets_variable (two_nodes d r updated) act.variable_updated
 
   quiet_sets : (l : Node × ℕ) (c : ℕ → Bool) → Quiet (ternary d r) l c → Disjoint table (op mark.Assign) c → ((n : Node) (m : ℕ) → l ≡ (n, act.ended m) → ⊥) → Quiet sets l c
   quiet_sets l c q h fresh = quiet_suffix 0 (ternary d r) act.is_place (set_part d r value) act.assigned l c q (λ t less k g j. no_class (op mark.Assign) c h t less g j) (λ m y t less e g j. fresh _ _ e)
 
-  quiet_variable : (l : Node × ℕ) (c : ℕ → Bool) → Quiet sets l c → ((t : ℕ) → t < size → act.sets_variable l ≡ true → updates t ≡ true → c t ≡ true → ⊥) → ((n : Node) (m : ℕ) → l ≡ (n, act.ended m) → ⊥) → Quiet updates_variable l c
-  quiet_variable l c q h fresh = quiet_suffix 0 sets act.sets_variable (two_nodes d r updated) act.variable_updated l c q h (λ m y t less e g j. fresh _ _ e)
+  quiet_called : (l : Node × ℕ) (c : ℕ → Bool) → Quiet sets l c → ((t : ℕ) → t < size → act.sets_variable l ≡ true → calling t ≡ true → c t ≡ true → ⊥) → ((n : Node) (m : ℕ) → l ≡ (n, act.ended m) → ⊥) → Quiet calls_operator l c
+  quiet_called l c q h fresh = quiet_suffix 2 sets act.sets_variable (call_part d r updated) act.operator_updated l c q h (λ m y t less e g j. fresh _ _ e)
 
-  quiet_assignment : (l : Node × ℕ) (c : ℕ → Bool) → Quiet (ternary d r) l c → Disjoint table (op mark.Assign) c → Disjoint table updates c → ((n : Node) (m : ℕ) → l ≡ (n, act.ended m) → ⊥) → Quiet (assignment d r value updated) l c
-  quiet_assignment l c q h g fresh = quiet_suffix 0 updates_variable act.sets_attribute (update_part d r updated) act.attribute_updated l c
-      (quiet_variable l c (quiet_sets l c q h fresh) (λ t less k x j. no_class updates c g t less x j) fresh)
+  quiet_variable : (l : Node × ℕ) (c : ℕ → Bool) → Quiet calls_operator l c → ((t : ℕ) → t < size → act.sets_variable l ≡ true → guarding t ≡ true → c t ≡ true → ⊥) → ((n : Node) (m : ℕ) → l ≡ (n, act.ended m) → ⊥) → Quiet updates_variable l c
+  quiet_variable l c q h fresh = quiet_suffix 0 calls_operator act.sets_variable (two_nodes d r updated) act.variable_updated l c q h (λ m y t less e g j. fresh _ _ e)
+
+  quiet_assignment : (l : Node × ℕ) (c : ℕ → Bool) → Quiet (ternary d r) l c → Disjoint table (op mark.Assign) c → Disjoint table calling c → Disjoint table guarding c → Disjoint table updates c → ((n : Node) (m : ℕ) → l ≡ (n, act.ended m) → ⊥) → Quiet (assignment d r value updated) l c
+  quiet_assignment l c q h a b g fresh = quiet_suffix 0 updates_variable act.sets_attribute (update_part d r updated) act.attribute_updated l c
+      (quiet_variable l c (quiet_called l c (quiet_sets l c q h fresh) (λ t less k x j. no_class calling c a t less x j) fresh) (λ t less k x j. no_class guarding c b t less x j) fresh)
       (λ t less k x j. no_class updates c g t less x j) (λ m y t less e x j. fresh _ _ e)
 
 c_assignment : (d r : Bool) (value updated : R (marked tree)) → Checks table value → Checks table updated → Checks table (assignment d r value updated)
 unfolding table placed target star_target behind_target next_target more_targets starred_set several_set parameter_name bracketed_names more_parameters default_value no_default behind_name named_parameter bracketed_parameter rest_parameter block_parameter sign_parameter simple_parameters parameters block_parameters brace_parts do_parts body_behind def_name def_in_brackets def_plain def_value plain_call lambda_block empty_brackets full_brackets lambda_call called arrow_parameters plain_block arrow_value then_sign else_part branch otherwise if_value unless_value loop_body while_value until_value when_clause case_value class_header rescue_clause body_else body_ensure handlers begin_value module_body class_value module_value keyword_form newlines behind_newlines paren closed brace_block do_block block tail paren_tail keyword_value word_value integer_value text ivar_value gvar_value top_constant word_list embedded interpolated parenthesized array label_key pair_in_braces hash_value name_call constant_value super_value yield_value prim dot_part scope_part bracket post not_level power_level minus_level product_level sum_level shift_level comparison_level equal_level equality_level and_level or_level range_level ternary argument command_arguments command_part splat item more_items splat_list other_items one_value nested_value right_side jump_value jump command_level block_argument label_pair arrow_pair arguments_from arguments cargs more_pairs method_name not_expression expression alias_statement undef_statement simple modifier statement line statement_list Quiet
 c_assignment true r value updated cv cu = (
   inr (λ l t less k g h. quiet_variable true r value updated l updates
+      (quiet_called true r value updated l updates
       (quiet_sets true r value updated l updates (quiet_class (ternary true r) l updates refl) refl (λ n m e. set_not act.is_attribute l n m e k))
+      (λ t less x y z. variable_or_attribute l k x) (λ n m e. set_not act.is_attribute l n m e k))
       (λ t less x y z. variable_or_attribute l k x) (λ n m e. set_not act.is_attribute l n m e k) t less g h),
   refl,
   refl,
   λ l x k. omega (arith, attribute_deep l x k),
   (
-    inr (λ l t less k g h. quiet_sets true r value updated l updates (quiet_class (ternary true r) l updates refl) refl (λ n m e. set_not act.is_variable l n m e k) t less g h),
+    inr (λ l t less k g h. quiet_called true r value updated l guarding
+        (quiet_sets true r value updated l guarding (quiet_class (ternary true r) l guarding refl) refl (λ n m e. set_not act.is_variable l n m e k))
+        (λ t less x y z. no_class calling guarding refl t less y z) (λ n m e. set_not act.is_variable l n m e k) t less g h),
     refl,
     refl,
     λ l x k. omega (arith, variable_deep l x k),
-    (inl refl, refl, refl, λ l x k. omega (arith, assigned_deep l x k), c_ternary true r, (λ x. refl, behind_checks table value cv (op mark.Assign))),
+    (
+      inr (λ l t less k g h. quiet_sets true r value updated l calling (quiet_class (ternary true r) l calling refl) refl (λ n m e. set_not act.is_variable l n m e k) t less g h),
+      refl,
+      refl,
+      λ l x k. omega (arith, operator_deep l x k),
+      (inl refl, refl, refl, λ l x k. omega (arith, assigned_deep l x k), c_ternary true r, (λ x. refl, behind_checks table value cv (op mark.Assign))),
+      (no_classes_of updated, tt, cu),
+    ),
     (inl (λ x. omega arith), (λ x. refl, (λ x. refl, (no_classes_of updated, tt, cu)))),
   ),
   (λ x. refl, (no_classes_of updated, tt, cu)),
 )
 c_assignment false r value updated cv cu = (
   inr (λ l t less k g h. quiet_variable false r value updated l updates
+      (quiet_called false r value updated l updates
       (quiet_sets false r value updated l updates (quiet_class (ternary false r) l updates refl) refl (λ n m e. set_not act.is_attribute l n m e k))
+      (λ t less x y z. variable_or_attribute l k x) (λ n m e. set_not act.is_attribute l n m e k))
       (λ t less x y z. variable_or_attribute l k x) (λ n m e. set_not act.is_attribute l n m e k) t less g h),
   refl,
   refl,
   λ l x k. omega (arith, attribute_deep l x k),
   (
-    inr (λ l t less k g h. quiet_sets false r value updated l updates (quiet_class (ternary false r) l updates refl) refl (λ n m e. set_not act.is_variable l n m e k) t less g h),
+    inr (λ l t less k g h. quiet_called false r value updated l guarding
+        (quiet_sets false r value updated l guarding (quiet_class (ternary false r) l guarding refl) refl (λ n m e. set_not act.is_variable l n m e k))
+        (λ t less x y z. no_class calling guarding refl t less y z) (λ n m e. set_not act.is_variable l n m e k) t less g h),
     refl,
     refl,
     λ l x k. omega (arith, variable_deep l x k),
-    (inl refl, refl, refl, λ l x k. omega (arith, assigned_deep l x k), c_ternary false r, (λ x. refl, behind_checks table value cv (op mark.Assign))),
+    (
+      inr (λ l t less k g h. quiet_sets false r value updated l calling (quiet_class (ternary false r) l calling refl) refl (λ n m e. set_not act.is_variable l n m e k) t less g h),
+      refl,
+      refl,
+      λ l x k. omega (arith, operator_deep l x k),
+      (inl refl, refl, refl, λ l x k. omega (arith, assigned_deep l x k), c_ternary false r, (λ x. refl, behind_checks table value cv (op mark.Assign))),
+      (no_classes_of updated, tt, cu),
+    ),
     (inl (λ x. omega arith), (λ x. refl, (λ x. refl, (no_classes_of updated, tt, cu)))),
   ),
   (λ x. refl, (no_classes_of updated, tt, cu)),
@@ -757,8 +786,8 @@ c_commanding false r value cv e q = (
 
 settled : (d r : Bool) (value updated : R (marked tree)) → Settled d r (assignment d r value updated)
 unfolding table placed target star_target behind_target next_target more_targets starred_set several_set parameter_name bracketed_names more_parameters default_value no_default behind_name named_parameter bracketed_parameter rest_parameter block_parameter sign_parameter simple_parameters parameters block_parameters brace_parts do_parts body_behind def_name def_in_brackets def_plain def_value plain_call lambda_block empty_brackets full_brackets lambda_call called arrow_parameters plain_block arrow_value then_sign else_part branch otherwise if_value unless_value loop_body while_value until_value when_clause case_value class_header rescue_clause body_else body_ensure handlers begin_value module_body class_value module_value keyword_form newlines behind_newlines paren closed brace_block do_block block tail paren_tail keyword_value word_value integer_value text ivar_value gvar_value top_constant word_list embedded interpolated parenthesized array label_key pair_in_braces hash_value name_call constant_value super_value yield_value prim dot_part scope_part bracket post not_level power_level minus_level product_level sum_level shift_level comparison_level equal_level equality_level and_level or_level range_level ternary argument command_arguments command_part splat item more_items splat_list other_items one_value nested_value right_side jump_value jump command_level block_argument label_pair arrow_pair arguments_from arguments cargs more_pairs method_name not_expression expression alias_statement undef_statement simple modifier statement line statement_list
-settled true r value updated l fresh = quiet_assignment true r value updated l begins_command (quiet_class (ternary true r) l begins_command refl) refl refl fresh
-settled false r value updated l fresh = quiet_assignment false r value updated l begins_command (quiet_class (ternary false r) l begins_command refl) refl refl fresh
+settled true r value updated l fresh = quiet_assignment true r value updated l begins_command (quiet_class (ternary true r) l begins_command refl) refl refl refl refl fresh
+settled false r value updated l fresh = quiet_assignment false r value updated l begins_command (quiet_class (ternary false r) l begins_command refl) refl refl refl refl fresh
 
 c_splat : (d r : Bool) → Checks table (splat d r)
 unfolding table placed target star_target behind_target next_target more_targets starred_set several_set parameter_name bracketed_names more_parameters default_value no_default behind_name named_parameter bracketed_parameter rest_parameter block_parameter sign_parameter simple_parameters parameters block_parameters brace_parts do_parts body_behind def_name def_in_brackets def_plain def_value plain_call lambda_block empty_brackets full_brackets lambda_call called arrow_parameters plain_block arrow_value then_sign else_part branch otherwise if_value unless_value loop_body while_value until_value when_clause case_value class_header rescue_clause body_else body_ensure handlers begin_value module_body class_value module_value keyword_form newlines behind_newlines paren closed brace_block do_block block tail paren_tail keyword_value word_value integer_value text ivar_value gvar_value top_constant word_list embedded interpolated parenthesized array label_key pair_in_braces hash_value name_call constant_value super_value yield_value prim dot_part scope_part bracket post not_level power_level minus_level product_level sum_level shift_level comparison_level equal_level equality_level and_level or_level range_level ternary argument command_arguments command_part splat item more_items splat_list other_items one_value nested_value right_side jump_value jump command_level block_argument label_pair arrow_pair arguments_from arguments cargs more_pairs method_name not_expression expression alias_statement undef_statement simple modifier statement line statement_list
@@ -829,6 +858,11 @@ unfolding table
 last_attribute d r l m y t e (x, e2, inl g) j k = ends_quiet l _ (y.value.1.1) t _ e k (subst (λ w. (behind p.OneValue d t && value_goes_on (w.1.1) t) ≡ true) (sym (ap (λ w. w.value) e2)) g) j
 last_attribute d r l m y t e (x, e2, inr g) j k = true≢false (sym g.0)
 
+last_operator : (d r : Bool) (l m : Node × ℕ) (y : Seen × (Node × ℕ)) (t : ℕ) → l ≡ act.operator_updated m y → GoesOn table (call_part d r (named (part p.OneValue d r))) y t → op mark.Comma t ≡ true → not (nat_eq l.1 act.commanded) ≡ true → ⊥
+unfolding table
+last_operator d r l m y t e (inl g) j k = ends_quiet l _ (y.1.1) t _ e k g j
+last_operator d r l m y t e (inr g) j k = true≢false (sym g.0)
+
 last_variable : (d r : Bool) (l m : Node × ℕ) (y : Held (Held (Seen × (Node × ℕ)))) (t : ℕ) → l ≡ act.variable_updated m y → GoesOn table (two_nodes d r (named (part p.OneValue d r))) y t → op mark.Comma t ≡ true → not (nat_eq l.1 act.commanded) ≡ true → ⊥
 unfolding table
 last_variable d r l m y t e (z, e3, (x, e2, inl g)) j k = ends_quiet l _ (y.value.value.1.1) t _ e k (subst (λ w. (behind p.OneValue d t && value_goes_on (w.1.1) t) ≡ true) (sym (ap (λ w. w.value) (ap (λ w. w.value) e3 ∙ e2))) g) j
@@ -839,12 +873,15 @@ unfolding table placed target star_target behind_target next_target more_targets
 quiet_comma true r l k = quiet_suffix 0 (commands true r (assignment true r (named (part p.NestedValue true r)) (named (part p.OneValue true r)))) act.yields (node {s = marked args_sort} {r = under (marked args_sort)} (λ x. record { value = x }) (command_arguments true r false)) act.yield_command l (op mark.Comma)
     (quiet_suffix 0 (assignment true r (named (part p.NestedValue true r)) (named (part p.OneValue true r))) (λ l. is_some (act.callee l)) (node {s = pair (marked args_sort) (optional tree)} {r = under (pair (marked args_sort) (optional tree))} (λ x. record { value = x }) (command_part true r)) act.command_node l (op mark.Comma)
     (quiet_suffix 0 (updates_variable true r (named (part p.NestedValue true r)) (named (part p.OneValue true r))) act.sets_attribute (update_part true r (named (part p.OneValue true r))) act.attribute_updated l (op mark.Comma)
-    (quiet_suffix 0 (sets true r (named (part p.NestedValue true r)) (named (part p.OneValue true r))) act.sets_variable (two_nodes true r (named (part p.OneValue true r))) act.variable_updated l (op mark.Comma)
+    (quiet_suffix 0 (calls_operator true r (named (part p.NestedValue true r)) (named (part p.OneValue true r))) act.sets_variable (two_nodes true r (named (part p.OneValue true r))) act.variable_updated l (op mark.Comma)
+    (quiet_suffix 2 (sets true r (named (part p.NestedValue true r)) (named (part p.OneValue true r))) act.sets_variable (call_part true r (named (part p.OneValue true r))) act.operator_updated l (op mark.Comma)
     (quiet_suffix 0 (ternary true r) act.is_place (set_part true r (named (part p.NestedValue true r))) act.assigned l (op mark.Comma)
     (quiet_class (ternary true r) l (op mark.Comma) refl)
     (λ t less x y z. no_class (op mark.Assign) (op mark.Comma) refl t less y z)
     (λ m y t less e g j. last_set true r l m y t e g j k))
-    (λ t less x y z. no_class updates (op mark.Comma) refl t less y z)
+    (λ t less x y z. no_class calling (op mark.Comma) refl t less y z)
+    (λ m y t less e g j. last_operator true r l m y t e g j k))
+    (λ t less x y z. no_class guarding (op mark.Comma) refl t less y z)
     (λ m y t less e g j. last_variable true r l m y t e g j k))
     (λ t less x y z. no_class updates (op mark.Comma) refl t less y z)
     (λ m y t less e g j. last_attribute true r l m y t e g j k))
@@ -855,12 +892,15 @@ quiet_comma true r l k = quiet_suffix 0 (commands true r (assignment true r (nam
 quiet_comma false r l k = quiet_suffix 0 (commands false r (assignment false r (named (part p.NestedValue false r)) (named (part p.OneValue false r)))) act.yields (node {s = marked args_sort} {r = under (marked args_sort)} (λ x. record { value = x }) (command_arguments false r false)) act.yield_command l (op mark.Comma)
     (quiet_suffix 0 (assignment false r (named (part p.NestedValue false r)) (named (part p.OneValue false r))) (λ l. is_some (act.callee l)) (node {s = pair (marked args_sort) (optional tree)} {r = under (pair (marked args_sort) (optional tree))} (λ x. record { value = x }) (command_part false r)) act.command_node l (op mark.Comma)
     (quiet_suffix 0 (updates_variable false r (named (part p.NestedValue false r)) (named (part p.OneValue false r))) act.sets_attribute (update_part false r (named (part p.OneValue false r))) act.attribute_updated l (op mark.Comma)
-    (quiet_suffix 0 (sets false r (named (part p.NestedValue false r)) (named (part p.OneValue false r))) act.sets_variable (two_nodes false r (named (part p.OneValue false r))) act.variable_updated l (op mark.Comma)
+    (quiet_suffix 0 (calls_operator false r (named (part p.NestedValue false r)) (named (part p.OneValue false r))) act.sets_variable (two_nodes false r (named (part p.OneValue false r))) act.variable_updated l (op mark.Comma)
+    (quiet_suffix 2 (sets false r (named (part p.NestedValue false r)) (named (part p.OneValue false r))) act.sets_variable (call_part false r (named (part p.OneValue false r))) act.operator_updated l (op mark.Comma)
     (quiet_suffix 0 (ternary false r) act.is_place (set_part false r (named (part p.NestedValue false r))) act.assigned l (op mark.Comma)
     (quiet_class (ternary false r) l (op mark.Comma) refl)
     (λ t less x y z. no_class (op mark.Assign) (op mark.Comma) refl t less y z)
     (λ m y t less e g j. last_set false r l m y t e g j k))
-    (λ t less x y z. no_class updates (op mark.Comma) refl t less y z)
+    (λ t less x y z. no_class calling (op mark.Comma) refl t less y z)
+    (λ m y t less e g j. last_operator false r l m y t e g j k))
+    (λ t less x y z. no_class guarding (op mark.Comma) refl t less y z)
     (λ m y t less e g j. last_variable false r l m y t e g j k))
     (λ t less x y z. no_class updates (op mark.Comma) refl t less y z)
     (λ m y t less e g j. last_attribute false r l m y t e g j k))
@@ -1264,7 +1304,7 @@ quiet_target r l k =
     (quiet_choice (jump false r) _ l (op mark.Comma) refl (quiet_made _ (marked tree) _ _ l (op mark.Comma) (λ x e. other_no_place l _ e k))
     (quiet_suffix 0 _ act.yields _ act.yield_command l (op mark.Comma)
     (quiet_suffix 0 _ (λ l. is_some (act.callee l)) _ act.command_node l (op mark.Comma)
-    (quiet_assignment true r (plain (named (part p.RightSide true r))) (named (part p.OneValue true r)) l (op mark.Comma) (quiet_class (ternary true r) l (op mark.Comma) refl) refl refl (λ n m e. ended_no_place l n m e k))
+    (quiet_assignment true r (plain (named (part p.RightSide true r))) (named (part p.OneValue true r)) l (op mark.Comma) (quiet_class (ternary true r) l (op mark.Comma) refl) refl refl refl refl (λ n m e. ended_no_place l n m e k))
     (λ t less x y z. no_class (first table (command_part true r)) (op mark.Comma) refl t less y z)
     (λ m y t less e g j. ended_no_place l _ act.commanded e k))
     (λ t less x y z. no_class (first table (command_arguments true r false)) (op mark.Comma) refl t less y z)

@@ -1,5 +1,6 @@
 -- The nodes that the productions spell, with their spans and marks.
 use Rattle.std.specs.Prelude.{ℕ, ℤ, pos, zero, suc, ◌-◌, Bool, true, false, not, ◌&&◌, ◌||◌, nat_eq, if◌then◌else◌, List, [], ◌∷◌, ◌++◌, length, take, map, Option, Some, None, codes, is_some, bytes_eq}
+use Rattle.std.specs.Option.{option_map}
 use Rattle.grammar.specs.Rules.{Held}
 use Rattle.opal_base.specs.declared.place.Pos.{Pos}
 use Rattle.opal_base.specs.declared.place.Span.{Span}
@@ -381,8 +382,11 @@ sets_variable l = takes is_variable (place_of l)
 abbrev pub sets_attribute : Node × ℕ → Bool
 sets_attribute l = takes is_attribute (place_of l)
 
+abbrev pub operator_updated : Node × ℕ → Seen × (Node × ℕ) → Node × ℕ
+operator_updated l x = (combined_place (place_of l) x.0 l.0 (x.1.0), ended (x.1.1))
+
 abbrev pub variable_updated : Node × ℕ → Held (Held (Seen × (Node × ℕ))) → Node × ℕ
-variable_updated l x = (combined_place (place_of l) (x.value.value.0) l.0 (x.value.value.1.0), ended (x.value.value.1.1))
+variable_updated l x = operator_updated l x.value.value
 
 abbrev pub attribute_updated : Node × ℕ → Held (Seen × (Node × ℕ)) → Node × ℕ
 attribute_updated l x = (attribute_place (place_of l) (x.value.0) l.0 (x.value.1.0), ended (x.value.1.1))
@@ -721,19 +725,23 @@ if_behind = 0
 abbrev pub unless_behind : ℕ
 unless_behind = 1
 
-abbrev pub loop_behind : ℕ
-loop_behind = 2
+abbrev pub while_behind : ℕ
+while_behind = 2
+
+abbrev pub until_behind : ℕ
+until_behind = 3
 
 abbrev pub modified_kind : ℕ → Node × ℕ → Node → Span → Kind
 modified_kind zero l cond s = kind.If cond l.0 (empty_at s)
 modified_kind (suc zero) l cond s = kind.If cond (empty_at s) l.0
-modified_kind (suc (suc n)) l cond s = kind.While cond l.0 (nat_eq l.1 begun)
+modified_kind (suc (suc zero)) l cond s = kind.While cond l.0 (nat_eq l.1 begun)
+modified_kind (suc (suc (suc n))) l cond s = kind.While (replaced s cond.mark cond) l.0 (nat_eq l.1 begun)
 
 -- a statement and the keyword and condition behind it
 abbrev pub modified : Node × ℕ → (Seen × Node) × ℕ → Node × ℕ
 modified l x = (make (modified_kind x.1 l (x.0.1) (nodes l.0 (x.0.1))) (nodes l.0 (x.0.1)) (start (x.0.0)), other)
 
--- the condition of an `until`, whose span the form sets
+-- the condition of an `until`, which gets the span of the whole
 abbrev pub until_condition : Seen × Node → Seen × Node
 until_condition x = (x.0, make (kind.Not x.1) (from_token x.0 x.1) (start x.0))
 
@@ -821,6 +829,28 @@ part_if s (Some x) = Some (filled s x.1)
 
 abbrev pub begin_node : Span → Node × ℕ → Handlers → Node
 begin_node s x h = make (kind.Begin (filled s x) h.0 (part_if s (h.1.0)) (part_if s (h.1.1))) s s.from
+
+-- whether a part of a body is one that the text doesn't have
+abbrev pub is_empty_in : Layer → Bool
+is_empty_in (Kind-F.Seq []) = true
+is_empty_in _ = false
+
+-- a part that the text doesn't have gets the span of the form that holds it
+abbrev pub refilled : Span → Node → Node
+refilled s n = if is_empty_in (layer n) then replaced s s.from n else n
+
+-- a body with clauses: its statements, the clauses, and the `else` and `ensure` parts
+abbrev pub body_in : Layer → Option (Node × (List Node × (Option Node × Option Node)))
+body_in (Kind-F.Begin body clauses otherwise ensure) = Some (body, (clauses, (otherwise, ensure)))
+body_in _ = None
+
+abbrev pub spread_over : Span → Option (Node × (List Node × (Option Node × Option Node))) → Node → Node
+spread_over s None n = replaced s s.from n
+spread_over s (Some x) n = make (kind.Begin (refilled s x.0) (x.1.0) (option_map (refilled s) (x.1.1.0)) (option_map (refilled s) (x.1.1.1))) s s.from
+
+-- a body between two tokens, from one to the other
+abbrev pub spread : Span → Node → Node
+spread s n = spread_over s (body_in (layer n)) n
 
 -- statements behind a token, with clauses
 abbrev pub with_handlers : Seen × (Node × ℕ) → Handlers → Seen × (Node × ℕ)

@@ -10,7 +10,7 @@ use Rattle.ruby_meaning.specs.declared.tree.Kind.TheVariants as kind
 use Rattle.ruby_meaning.specs.declared.tree.ModuleForm.TheVariants as form
 use Rattle.ruby_meaning.specs.Grammar.Classes.{a, op, key}
 use Rattle.ruby_meaning.specs.Grammar.Names.{params_sort, R, part}
-use Rattle.ruby_meaning.specs.Grammar.Actions.{make, start, span_of, tokens, to_end, other, filled, nothing, last_of, last_then, elsif_span, replaced, form_of, form_name, form_place, units, name_if, rescue_place, is_variable_name, is_attached, with_handlers, begun, is_receiver, on_receiver, def_node}
+use Rattle.ruby_meaning.specs.Grammar.Actions.{make, start, span_of, tokens, to_end, other, filled, nothing, last_of, last_then, elsif_span, replaced, spread, form_of, form_name, form_place, units, name_if, rescue_place, is_variable_name, is_attached, with_handlers, begun, is_receiver, on_receiver, def_node}
 use Rattle.ruby_meaning.specs.Grammar.Parameters.{behind_newlines, some_parameters}
 
 abbrev pub separators : ℕ → Bool
@@ -133,7 +133,7 @@ module _ (in_rescue : Bool) where
 
   -- "begin" body "end"
   unfoldable pub begin_value : R (marked tree)
-  begin_value = view {s = pair (pair leaf (marked tree)) leaf} (λ x. (replaced (tokens (x.0.0) x.1) (start (x.0.0)) (x.0.1.0), begun))
+  begin_value = view {s = pair (pair leaf (marked tree)) leaf} (λ x. (spread (tokens (x.0.0) x.1) (x.0.1.0), begun))
       (sequence (body_behind (token (key word.Begin))) (token (key word.End)))
 
 -- sep stmts "end"

@@ -11,7 +11,7 @@ use Rattle.ruby_meaning.specs.declared.token.Word.TheVariants as word
 use Rattle.ruby_meaning.specs.declared.tree.Kind.TheVariants as kind
 use Rattle.ruby_meaning.specs.Grammar.Classes.{a, op, marked_op, key}
 use Rattle.ruby_meaning.specs.Grammar.Names.{args_sort, R, part}
-use Rattle.ruby_meaning.specs.Grammar.Actions.{make, start, from_token, nodes, other, compared, commanded, binary, negated, different, without_end, is_place, assigned, sets_variable, sets_attribute, variable_updated, attribute_updated, callee, yields, command_node, yield_command, single, paired, key_first, has_pair, with_more, first_argument, takes_more, takes_pairs, argued, keyed, whole, array_of, jump_node, nothing, no_args, Args}
+use Rattle.ruby_meaning.specs.Grammar.Actions.{make, start, from_token, nodes, other, compared, commanded, binary, negated, different, without_end, is_place, assigned, sets_variable, sets_attribute, operator_updated, variable_updated, attribute_updated, callee, yields, command_node, yield_command, single, paired, key_first, has_pair, with_more, first_argument, takes_more, takes_pairs, argued, keyed, whole, array_of, jump_node, nothing, no_args, Args}
 use Rattle.ruby_meaning.specs.Grammar.Calls.{do_block}
 use Rattle.ruby_meaning.specs.Grammar.Primaries.{post, label_key}
 
@@ -22,9 +22,17 @@ plain r = view {s = tree} (λ n. (n, other)) r
 abbrev pub value_of : R (marked tree) → R tree
 value_of r = view {s = marked tree} (λ x. x.0) r
 
+-- the signs of an assignment with an operator that is called
+abbrev pub calling : ℕ → Bool
+calling = op mark.PlusSet or op mark.MinusSet or op mark.StarSet or op mark.SlashSet or op mark.PercentSet or op mark.PowerSet or op mark.ShiftLeftSet
+
+-- `||=` and `&&=`
+abbrev pub guarding : ℕ → Bool
+guarding = op mark.OrSet or op mark.AndSet
+
 -- the signs of an assignment with an operator
 abbrev pub updates : ℕ → Bool
-updates = op mark.PlusSet or op mark.MinusSet or op mark.StarSet or op mark.SlashSet or op mark.PercentSet or op mark.PowerSet or op mark.ShiftLeftSet or op mark.OrSet or op mark.AndSet
+updates = calling or guarding
 
 -- the marks that begin the arguments of a command
 abbrev pub begins_marked : ℕ → Bool
@@ -110,15 +118,23 @@ module _ (takes_do : Bool) (in_rescue : Bool) where
   abbrev pub update_part : R (marked tree) → R (under (pair leaf (marked tree)))
   update_part value = node {s = pair leaf (marked tree)} {r = under (pair leaf (marked tree))} (λ x. record { value = x }) (sequence (token updates) value)
 
-  -- the same under two nodes, which are there as soon as it begins
-  abbrev pub two_nodes : R (marked tree) → R (under (under (pair leaf (marked tree))))
-  two_nodes value = needs 2 (node {s = under (pair leaf (marked tree))} {r = under (under (pair leaf (marked tree)))} (λ x. record { value = x }) (update_part value))
+  -- the sign of an operator that is called, and a value
+  abbrev pub call_part : R (marked tree) → R (pair leaf (marked tree))
+  call_part value = sequence (token calling) value
 
-  -- target "=" value | target OP"=" updated | what stands without them
+  -- `||=` or `&&=` and a value, under two nodes, which are there as soon as it begins
+  abbrev pub two_nodes : R (marked tree) → R (under (under (pair leaf (marked tree))))
+  two_nodes value = needs 2 (node {s = under (pair leaf (marked tree))} {r = under (under (pair leaf (marked tree)))} (λ x. record { value = x })
+      (node {s = pair leaf (marked tree)} {r = under (pair leaf (marked tree))} (λ x. record { value = x }) (sequence (token guarding) value)))
+
+  -- target "=" value | target OP"=" updated | what stands without them. The call of an operator is two nodes above the
+  -- variable that it reads
   abbrev pub assignment : R (marked tree) → R (marked tree) → R (marked tree)
   assignment value updated = suffix {r = under (pair leaf (marked tree))} 0
       (suffix {r = under (under (pair leaf (marked tree)))} 0
+      (suffix {r = pair leaf (marked tree)} 2
       (suffix {r = under (marked tree)} 0 ternary is_place (set_part value) assigned)
+      sets_variable (call_part updated) operator_updated)
       sets_variable (two_nodes updated) variable_updated)
       sets_attribute (update_part updated) attribute_updated
 

@@ -8,7 +8,7 @@ use Rattle.ruby_meaning.specs.declared.token.Word.TheVariants as word
 use Rattle.ruby_meaning.specs.declared.tree.Kind.TheVariants as kind
 use Rattle.ruby_meaning.specs.Grammar.Classes.{op, key}
 use Rattle.ruby_meaning.specs.Grammar.Names.{targets_sort, R, part}
-use Rattle.ruby_meaning.specs.Grammar.Actions.{make, start, span_of, from_token, to_end, other, full_name, full_names, name_span, names_span, is_place, target_node, multi_set, joined, modified, if_behind, unless_behind, loop_behind, until_condition, statements, sequence_of}
+use Rattle.ruby_meaning.specs.Grammar.Actions.{make, start, span_of, from_token, to_end, other, full_name, full_names, name_span, names_span, is_place, target_node, multi_set, joined, modified, if_behind, unless_behind, while_behind, until_behind, until_condition, statements, sequence_of}
 use Rattle.ruby_meaning.specs.Grammar.Definitions.{separators, method_name}
 use Rattle.ruby_meaning.specs.Grammar.Primaries.{post}
 use Rattle.ruby_meaning.specs.Grammar.Expressions.{command_level}
@@ -75,8 +75,8 @@ module _ (in_rescue : Bool) where
   unfoldable pub modifier : R (marked (pair leaf tree))
   modifier = choice (view {s = pair leaf tree} (λ x. (x, if_behind)) (sequence (token (key word.If)) (named (part p.Expression true in_rescue))))
       (choice (view {s = pair leaf tree} (λ x. (x, unless_behind)) (sequence (token (key word.Unless)) (named (part p.Expression true in_rescue))))
-      (choice (view {s = pair leaf tree} (λ x. (x, loop_behind)) (sequence (token (key word.While)) (named (part p.Expression false in_rescue))))
-      (view {s = pair leaf tree} (λ x. (x, loop_behind)) (needs 1 (node {s = pair leaf tree} until_condition (sequence (token (key word.Until)) (named (part p.Expression false in_rescue))))))))
+      (choice (view {s = pair leaf tree} (λ x. (x, while_behind)) (sequence (token (key word.While)) (named (part p.Expression false in_rescue))))
+      (view {s = pair leaf tree} (λ x. (x, until_behind)) (needs 1 (node {s = pair leaf tree} until_condition (sequence (token (key word.Until)) (named (part p.Expression false in_rescue))))))))
 
   -- stmt : simple modifier*
   unfoldable pub statement : R (marked tree)
