@@ -1,9 +1,9 @@
-ghost use Rattle.std.specs.Prelude.{◌≡◌, ◌<◌, [], ◌∷◌, ◌++◌, length, slice_get, OnOk, OnErr, IfOk, Some, bytes_eq};
-ghost use Rattle.std.specs.Option.{option_copied};
+ghost use Rattle.std.specs.Prelude.{◌≡◌, [], ◌∷◌, ◌++◌, OnOk, OnErr, false};
 ghost use Rattle.ruby_meaning.specs.Scoping.Names.{has, with_name};
 
 use crate::construct::Construct;
 use crate::tree::Program;
+use indexmap::IndexSet;
 use opal_base::{Names, NoMemory, Pos, Units};
 use sqlite_items::Items;
 use std::alloc::Global;
@@ -60,14 +60,18 @@ pub struct Refusal {
 #[derive(Drop)]
 pub struct NameList {
     names: Names,
+    // The same names, by which they are looked up.
+    index: IndexSet<Vec<u16>>,
 }
 
 impl Model for NameList {
-    ghost use Rattle.std.specs.Prelude.{List, ℕ};
+    ghost use Rattle.std.specs.Prelude.{◌≡◌, List, ℕ, map};
 
     ghost Value = { List (List ℕ) };
 
     ghost view = { λ list. list.names };
+
+    ghost invariant = { λ list. list.names ≡ map (λ key. key.items) list.index.keys };
 }
 
 impl NameList {
@@ -77,20 +81,15 @@ impl NameList {
     {
         NameList {
             names: Names::new(alloc),
+            index: IndexSet::new(alloc),
         }
     }
 
     /// Whether a name is among them.
-    #[tactic(auto, using(crate::proofs::Scoping::Lists::drop_at), unfolding(crate::specs::Scoping::Names::has))]
     pub fn contains(&self, name: &[u16]) -> bool
         ensures { result ≡ has self.now name.now }
     {
-        for i in 0..self.names.len() {
-            if self.names.at(i).as_slice() == name {
-                return true;
-            }
-        }
-        false
+        self.index.contains(name)
     }
 
     /// Puts a name at the end, if it isn't among them. Where no memory is found, nothing changes.
@@ -102,14 +101,36 @@ impl NameList {
         if self.contains(name.as_slice()) {
             return Ok(());
         }
-        self.names.push(name.try_clone()?)
+        self.add(name)
+    }
+
+    // The name isn't among them.
+    fn add(&mut self, name: &Units) -> Result<(), NoMemory>
+        requires { has self.old name.now ≡ false }
+        ensures ok { OnOk result (self.new ≡ self.old ++ name.now ∷ []) }
+        ensures err { OnErr result (self.new ≡ self.old) }
+    {
+        let key = match Vec::from_slice(*self.index.allocator(), name.as_slice()) {
+            Ok(key) => key,
+            Err(_) => return Err(NoMemory),
+        };
+        let copy = name.try_clone()?;
+        match self.index.reserve(1) {
+            Ok(()) => {}
+            Err(_) => return Err(NoMemory),
+        }
+        self.names.push(copy)?;
+        match self.index.insert(key) {
+            Ok(_) => Ok(()),
+            Err(_) => Err(NoMemory),
+        }
     }
 
     /// The names as a list.
     pub fn into_names(self) -> Names
         ensures { result ≡ self }
     {
-        let NameList { names } = self;
+        let NameList { names, index: _ } = self;
         names
     }
 }
