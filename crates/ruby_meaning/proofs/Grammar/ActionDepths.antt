@@ -597,7 +597,6 @@ variable_deep l x h = updated_deep l x.value.value h
 pub operator_deep : (l : Node × ℕ) (x : Seen × (Node × ℕ)) → act.sets_variable l ≡ true → depth_of ((act.operator_updated l x).0) ≡ suc (suc (max (depth_of l.0) (depth_of (x.1.0))))
 operator_deep l x h = omega (arith, updated_deep l x h, variable_level l h, some_level (x.1.0))
 
-
 pub attribute_deep : (l : Node × ℕ) (x : Held (Seen × (Node × ℕ))) → act.sets_attribute l ≡ true → depth_of ((act.attribute_updated l x).0) ≡ max (depth_of l.0) (suc (depth_of (x.value.1.0)))
 attribute_deep l x h = by (act.place_of l) h (place_is l (taken act.is_attribute (act.place_of l) h))
   where
