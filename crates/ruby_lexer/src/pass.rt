@@ -2,13 +2,14 @@
 
 ghost use Rattle.std.specs.Prelude.{◌≡◌, ◌+◌, ◌<◌, ◌≤◌, ◌^◌, ◌++◌, length, IfErr, IfOk, OnOk};
 ghost use Rattle.ruby_meaning.specs.Lexing.Lexes.{Lexes, Stops, kind_of, token_if, token_at};
-ghost use Rattle.ruby_lexer.specs.Answer.{Fits, IsFault, RefusedAt};
+ghost use Rattle.ruby_lexemes.specs.Answer.{Fits};
+ghost use Rattle.ruby_lexer.specs.Answer.{IsFault, RefusedAt};
 
 use crate::payload::kind_of;
 use crate::spot::{first_spot, go_on, is_blank, place, place_from};
 use crate::stand::stands;
-use crate::unit::blank_len;
 use opal_base::{NoMemory, Units};
+use ruby_lexemes::blank_len;
 use ruby_meaning::{Construct, Form, Spot, Stand, Stop, Token, TokenKind, Tokens};
 use std::alloc::Global;
 

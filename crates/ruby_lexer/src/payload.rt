@@ -5,10 +5,11 @@ ghost use Rattle.ruby_meaning.specs.Lexing.Characters as unit_spec;
 ghost use Rattle.ruby_meaning.specs.Lexing.Texts as spec;
 ghost use Rattle.ruby_meaning.specs.Lexing.Lexes.{integer, words_mark, symbols_mark, end_mark, kind_of};
 
-use crate::escape::{char_len, escaped_len, is_simple_escape, is_single_escape, scalar};
-use crate::number::number_value;
-use crate::unit::{hex_value, newline_len, unit};
 use opal_base::{NoMemory, Units};
+use ruby_lexemes::{
+    char_len, escaped_len, hex_value, is_simple_escape, is_single_escape, newline_len,
+    number_value, scalar, unit,
+};
 use ruby_meaning::{Bracket, Form, Mark, Spelling, TokenKind};
 use std::alloc::Global;
 

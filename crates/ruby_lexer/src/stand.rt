@@ -3,16 +3,13 @@
 ghost use Rattle.std.specs.Prelude.{◌≡◌, ◌≢◌, ◌<◌, ◌^◌, length, true};
 ghost use Rattle.ruby_meaning.specs.Lexing.Characters as unit_spec;
 ghost use Rattle.ruby_meaning.specs.Lexing.Stands as spec;
-ghost use Rattle.ruby_lexer.specs.Answer.{Fits};
+ghost use Rattle.ruby_lexemes.specs.Answer.{Fits};
 
-use crate::before::{begins_list, begins_symbol, joins, method_place};
-use crate::list::{in_list, list, opens_list};
-use crate::number::{is_negative, number};
-use crate::run::run;
-use crate::sign::{method_signed, signed, symbol};
-use crate::text::{in_text, quoted, raw_text};
-use crate::unit::{begins, is_digit, line_len, newline_len, starts_name, unit};
-use crate::word::{gvar, ivar, word};
+use ruby_lexemes::{
+    begins, begins_list, begins_symbol, gvar, in_list, in_text, is_digit, is_negative, ivar, joins,
+    line_len, list, method_place, method_signed, newline_len, number, opens_list, quoted, raw_text,
+    run, signed, starts_name, symbol, unit, word,
+};
 use ruby_meaning::{BLOCK_BEGIN, Class, END_LINE, Form, Mode, Place, Stand};
 
 /// Whether the first line is exactly the one that ends a text.
