@@ -15,13 +15,13 @@ use Rattle.ruby_meaning.specs.Grammar.Seen.{Seen}
 use Rattle.ruby_meaning.specs.Grammar.Table.{table}
 use Rattle.ruby_meaning.specs.Lexing.Laws.{HasOneEof}
 use Rattle.ruby_meaning.proofs.Grammar.TableMeets.{predictive}
-use Rattle.ruby_parser.specs.declared.cursor.Sight.{Sight}
+use Rattle.ruby_reading.specs.declared.cursor.Sight.{Sight}
 use Rattle.ruby_parser.specs.declared.read.Halt.TheVariants as halt
-use Rattle.ruby_parser.specs.declared.value.Body.{Body}
-use Rattle.ruby_parser.specs.Ahead.{see}
+use Rattle.ruby_reading.specs.declared.value.Body.{Body}
+use Rattle.ruby_reading.specs.Ahead.{see}
 use Rattle.ruby_parser.specs.Refusing.{BehindStatement, BehindSubject, ConstructIs, Names, ReadsAll, Starts, Tells, sign_of}
-use Rattle.ruby_parser.specs.Shown.{shown_body}
-use Rattle.ruby_parser.proofs.SightsRead.{end_behind}
+use Rattle.ruby_reading.specs.Shown.{shown_body}
+use Rattle.ruby_reading.proofs.SightsRead.{end_behind}
 use Rattle.ruby_parser.proofs.Told.{untold}
 
 -- a refusal that isn't too deep

@@ -23,8 +23,8 @@ use Rattle.ruby_meaning.specs.Grammar.Statements.{not_expression, expression, al
 use Rattle.ruby_meaning.specs.Grammar.Table.{table, rule_of}
 use Rattle.ruby_meaning.proofs.Grammar.Depths.{depth_seq}
 use Rattle.ruby_meaning.proofs.Grammar.TableMeets.{predictive}
-use Rattle.ruby_parser.specs.Ahead.{class_code}
-use Rattle.ruby_parser.specs.Named.{is_read}
+use Rattle.ruby_reading.specs.Ahead.{class_code}
+use Rattle.ruby_reading.specs.Named.{is_read}
 use Rattle.ruby_parser.specs.NoLevel.{opens_value, opens_nothing, opens_of}
 
 equal : (n c : ℕ) → nat_eq n c ≡ true → n ≡ c

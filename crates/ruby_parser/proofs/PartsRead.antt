@@ -15,16 +15,16 @@ use Rattle.ruby_meaning.specs.Grammar.Statements.{statement_list}
 use Rattle.ruby_meaning.specs.Grammar.Seen.{Seen}
 use Rattle.ruby_meaning.specs.Grammar.Table.{table, rule_of}
 use Rattle.ruby_meaning.proofs.Grammar.TableMeets.{predictive}
-use Rattle.ruby_parser.specs.declared.names.Tree.{Tree}
-use Rattle.ruby_parser.specs.declared.names.Tree.TheVariants as t
-use Rattle.ruby_parser.specs.declared.args.Args.{Args}
-use Rattle.ruby_parser.specs.declared.value.Body.{Body}
-use Rattle.ruby_parser.specs.declared.value.Reading.{Reading}
-use Rattle.ruby_parser.specs.declared.value.Reading.TheVariants as reading
-use Rattle.ruby_parser.specs.declared.value.Value.{Value}
-use Rattle.ruby_parser.specs.Ahead.{GivesNode}
-use Rattle.ruby_parser.specs.Named.{GivesArgs, GivesBody, GivesPart, GivesValue, production_of}
-use Rattle.ruby_parser.specs.Shown.{shown_args, shown_body, shown_value}
+use Rattle.ruby_reading.specs.declared.names.Tree.{Tree}
+use Rattle.ruby_reading.specs.declared.names.Tree.TheVariants as t
+use Rattle.ruby_reading.specs.declared.args.Args.{Args}
+use Rattle.ruby_reading.specs.declared.value.Body.{Body}
+use Rattle.ruby_reading.specs.declared.value.Reading.{Reading}
+use Rattle.ruby_reading.specs.declared.value.Reading.TheVariants as reading
+use Rattle.ruby_reading.specs.declared.value.Value.{Value}
+use Rattle.ruby_reading.specs.Ahead.{GivesNode}
+use Rattle.ruby_reading.specs.Named.{GivesArgs, GivesBody, GivesPart, GivesValue, production_of}
+use Rattle.ruby_reading.specs.Shown.{shown_args, shown_body, shown_value}
 use Rattle.ruby_parser.specs.TreeRules.{of_args, of_body, of_tree, of_value, tree_rule}
 
 module _ (d r : Bool) (b : ℕ) (ts rest : List Seen) where

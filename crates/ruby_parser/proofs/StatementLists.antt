@@ -7,7 +7,7 @@ use Rattle.ruby_meaning.specs.declared.token.Word.TheVariants as word
 use Rattle.ruby_meaning.specs.Grammar.Actions as act
 use Rattle.ruby_meaning.specs.Grammar.Classes.{key}
 use Rattle.ruby_meaning.specs.Grammar.Seen.{Seen}
-use Rattle.ruby_parser.specs.Ahead.{class_code}
+use Rattle.ruby_reading.specs.Ahead.{class_code}
 use Rattle.ruby_parser.specs.StatementValues.{read_lines_from, with_line, begins_modifier}
 
 abbrev Lines : Type 0

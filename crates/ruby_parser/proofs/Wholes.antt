@@ -19,13 +19,13 @@ use Rattle.ruby_meaning.specs.Grammar.Table.{table}
 use Rattle.ruby_meaning.proofs.Grammar.TableMeets.{predictive}
 use Rattle.ruby_parser.specs.declared.read.Halt.{Halt}
 use Rattle.ruby_parser.specs.declared.read.Halt.TheVariants as halt
-use Rattle.ruby_parser.specs.declared.value.Body.{Body}
-use Rattle.ruby_parser.specs.declared.value.Reading.{Reading}
-use Rattle.ruby_parser.specs.declared.value.Reading.TheVariants as reading
+use Rattle.ruby_reading.specs.declared.value.Body.{Body}
+use Rattle.ruby_reading.specs.declared.value.Reading.{Reading}
+use Rattle.ruby_reading.specs.declared.value.Reading.TheVariants as reading
 use Rattle.ruby_parser.specs.Endings.{ended, spelled, whole, whole_body}
-use Rattle.ruby_parser.specs.Named.{GivesPart}
+use Rattle.ruby_reading.specs.Named.{GivesPart}
 use Rattle.ruby_parser.specs.Refusing.{ReadsAll, Tells, TellsIf}
-use Rattle.ruby_parser.specs.Shown.{shown_body}
+use Rattle.ruby_reading.specs.Shown.{shown_body}
 
 not_zero : (n : ℕ) → nat_eq (suc n) 0 ≡ false
 not_zero n = grind (arith, nat_tests)

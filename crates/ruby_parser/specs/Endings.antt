@@ -5,9 +5,9 @@ use Rattle.descent.specs.declared.fail.Fail.TheVariants as fail
 use Rattle.opal_base.specs.declared.fault.NoMemory.{NoMemory}
 use Rattle.ruby_parser.specs.declared.read.Halt.{Halt}
 use Rattle.ruby_parser.specs.declared.read.Halt.TheVariants as halt
-use Rattle.ruby_parser.specs.declared.value.Body.{Body}
-use Rattle.ruby_parser.specs.declared.value.Reading.{Reading}
-use Rattle.ruby_parser.specs.declared.value.Reading.TheVariants as reading
+use Rattle.ruby_reading.specs.declared.value.Body.{Body}
+use Rattle.ruby_reading.specs.declared.value.Reading.{Reading}
+use Rattle.ruby_reading.specs.declared.value.Reading.TheVariants as reading
 
 abbrev pub stopped : ℕ → ℕ → Result Body Halt
 stopped all left = Err (halt.At (all - left))

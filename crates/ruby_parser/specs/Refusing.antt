@@ -20,10 +20,10 @@ use Rattle.ruby_meaning.specs.Grammar.Seen.{Seen}
 use Rattle.ruby_meaning.specs.Grammar.Table.{table}
 use Rattle.ruby_parser.specs.declared.read.Halt.{Halt}
 use Rattle.ruby_parser.specs.declared.read.Halt.TheVariants as halt
-use Rattle.ruby_parser.specs.declared.value.Body.{Body}
-use Rattle.ruby_parser.specs.declared.cursor.Sight.{Sight}
-use Rattle.ruby_parser.specs.Ahead.{see}
-use Rattle.ruby_parser.specs.Shown.{shown_body}
+use Rattle.ruby_reading.specs.declared.value.Body.{Body}
+use Rattle.ruby_reading.specs.declared.cursor.Sight.{Sight}
+use Rattle.ruby_reading.specs.Ahead.{see}
+use Rattle.ruby_reading.specs.Shown.{shown_body}
 
 -- A test tells whether it holds.
 abbrev pub Tells : Type 0 → Bool → Type 0

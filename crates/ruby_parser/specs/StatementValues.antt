@@ -1,5 +1,5 @@
 -- Statements: the nodes that they make, and lists of them.
-use Rattle.std.specs.Prelude.{ℕ, zero, suc, Bool, false, ◌||◌, if◌then◌else◌, List, [], ◌∷◌, ◌++◌, map, Option, Some, None, Result, Ok, nat_le}
+use Rattle.std.specs.Prelude.{ℕ, zero, suc, Bool, false, ◌||◌, if◌then◌else◌, List, [], ◌∷◌, ◌++◌, map, Option, Some, None, Result, Ok, nat_eq, nat_le}
 use Rattle.grammar.specs.Checks.{first}
 use Rattle.grammar.specs.CommonRules.{behind, separated}
 use Rattle.grammar.specs.FormReaders.{and_then, next_in, read_more_suffixes}
@@ -20,13 +20,13 @@ use Rattle.ruby_meaning.specs.Grammar.Names.{R, part}
 use Rattle.ruby_meaning.specs.Grammar.Seen.{Seen}
 use Rattle.ruby_meaning.specs.Grammar.Statements as s
 use Rattle.ruby_meaning.specs.Grammar.Table.{table}
-use Rattle.ruby_parser.specs.declared.definitions.MethodName.{MethodName}
+use Rattle.ruby_forms.specs.declared.methods.MethodName.{MethodName}
 use Rattle.ruby_parser.specs.declared.statements.Behind.{Behind}
 use Rattle.ruby_parser.specs.declared.statements.Behind.TheVariants as by
 use Rattle.ruby_parser.specs.declared.statements.Modifier.{Modifier}
-use Rattle.ruby_parser.specs.Ahead.{class_code, see}
-use Rattle.ruby_parser.specs.Definitions.{shown_method}
-use Rattle.ruby_parser.specs.Named.{many_from}
+use Rattle.ruby_reading.specs.Ahead.{class_code, see}
+use Rattle.ruby_forms.specs.Definitions.{shown_method}
+use Rattle.ruby_reading.specs.Named.{many_from}
 
 -- ---- alias and undef
 
@@ -56,13 +56,17 @@ if_kind cond first second = kind.If cond first second
 abbrev pub while_kind : Node → Node → Bool → Kind
 while_kind cond body body_first = kind.While cond body body_first
 
+abbrev pub looped : Node → Node × ℕ → Kind
+looped cond l = kind.While cond l.0 (nat_eq l.1 act.begun)
+
 abbrev pub begins_modifier : Seen → Bool
 begins_modifier t = key word.If (class_code t) || (key word.Unless (class_code t) || (key word.While (class_code t) || key word.Until (class_code t)))
 
 abbrev pub behind_code : Behind → ℕ
 behind_code by.If = act.if_behind
 behind_code by.Unless = act.unless_behind
-behind_code by.Loop = act.loop_behind
+behind_code by.While = act.while_behind
+behind_code by.Until = act.until_behind
 
 abbrev pub shown_modifier : Modifier → (Seen × Node) × ℕ
 shown_modifier m = ((see m.sign, m.cond), behind_code m.behind)
@@ -71,7 +75,7 @@ abbrev pub condition : Word → Bool → ℕ → Bool → R (marked (pair leaf t
 condition w d n r = view {s = pair leaf tree} (λ x. (x, n)) (sequence (token (key w)) (named (part p.Expression d r)))
 
 abbrev pub until_modifier : Bool → R (marked (pair leaf tree))
-until_modifier r = view {s = pair leaf tree} (λ x. (x, act.loop_behind)) (needs 1 (node {s = pair leaf tree} act.until_condition (sequence (token (key word.Until)) (named (part p.Expression false r)))))
+until_modifier r = view {s = pair leaf tree} (λ x. (x, act.until_behind)) (needs 1 (node {s = pair leaf tree} act.until_condition (sequence (token (key word.Until)) (named (part p.Expression false r)))))
 
 abbrev pub modifiers_from : Bool → ℕ → ℕ → Node × ℕ → List Seen → Result ((Node × ℕ) × List Seen) (List Seen)
 modifiers_from r b n l ts = read_more_suffixes (λ t. first table (s.modifier r) (table.code t)) (λ l. nat_le (depth_of l.0) b) act.modified (read_rule table (read_named table) (s.modifier r) b) n l ts

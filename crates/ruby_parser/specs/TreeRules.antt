@@ -6,13 +6,13 @@ use Rattle.ruby_meaning.specs.Grammar.Expressions as e
 use Rattle.ruby_meaning.specs.Grammar.Names.{R}
 use Rattle.ruby_meaning.specs.Grammar.Statements as s
 use Rattle.ruby_meaning.specs.declared.tree.Node.{Node}
-use Rattle.ruby_parser.specs.declared.args.Args.{Args}
-use Rattle.ruby_parser.specs.declared.names.Tree.{Tree}
-use Rattle.ruby_parser.specs.declared.value.Body.{Body}
-use Rattle.ruby_parser.specs.declared.value.Reading.{Reading}
-use Rattle.ruby_parser.specs.declared.value.Reading.TheVariants as reading
-use Rattle.ruby_parser.specs.declared.value.Value.{Value}
-use Rattle.ruby_parser.specs.declared.names.Tree.TheVariants as t
+use Rattle.ruby_reading.specs.declared.args.Args.{Args}
+use Rattle.ruby_reading.specs.declared.names.Tree.{Tree}
+use Rattle.ruby_reading.specs.declared.value.Body.{Body}
+use Rattle.ruby_reading.specs.declared.value.Reading.{Reading}
+use Rattle.ruby_reading.specs.declared.value.Reading.TheVariants as reading
+use Rattle.ruby_reading.specs.declared.value.Value.{Value}
+use Rattle.ruby_reading.specs.declared.names.Tree.TheVariants as t
 
 abbrev pub tree_rule : Tree → Bool → Bool → R tree
 tree_rule t.Statement d r = e.value_of (s.statement r)

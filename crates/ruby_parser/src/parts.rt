@@ -4,16 +4,23 @@ ghost use Rattle.std.specs.Prelude.{◌≡◌, IfSome, suc};
 ghost use Rattle.grammar.specs.Readers.{read_named, read_rule};
 ghost use Rattle.ruby_meaning.specs.Grammar.Table.{table};
 ghost use Rattle.ruby_meaning.specs.declared.production.Production.TheVariants as p;
-ghost use Rattle.ruby_parser.specs.Ahead.{ahead, GivesNode};
-ghost use Rattle.ruby_parser.specs.Named.{GivesPart, Nests, NestsBelow, production_of};
+ghost use Rattle.ruby_reading.specs.Ahead.{ahead, GivesNode};
+ghost use Rattle.ruby_reading.specs.Named.{GivesPart, Nests, NestsBelow, production_of};
 ghost use Rattle.ruby_parser.specs.TreeRules as spec;
 
-use crate::args::Args;
-use crate::cursor::Cursor;
-use crate::names::{Parser, Tree};
-use crate::value::{Body, Reading, Value};
+use crate::statements::{statement, statement_list};
 use descent::Fail;
+use ruby_expressions::{
+    argument, arguments, arguments_of_command, expression, nested_value_here, not_expression,
+    one_value_here, pairs, right_side,
+};
+use ruby_forms::otherwise;
 use ruby_meaning::{Node, Part, Production};
+use ruby_operands::{
+    and_level, comparison_level, equality_level, minus_level, not_level, or_level, power_level,
+    product_level, shift_level, sum_level, ternary,
+};
+use ruby_reading::{Args, Body, Cursor, Parser, Reading, Tree, Value};
 use std::alloc::Global;
 
 /// The production that gives a node, where it is one.
@@ -77,65 +84,75 @@ fn of_args(read: Result<Args, Fail>) -> Result<Reading, Fail>
     }
 }
 
-impl<F: Fn(Global, &mut Cursor<'_>, Part, u32) -> Result<Reading, Fail> + Copy> Parser<F> {
-    /// A production that gives a node, at the level of that node.
-    #[tactic(auto, unfolding(ruby_meaning::specs::Grammar::Table::table))]
-    fn tree_here(&self, cursor: &mut Cursor<'_>, tree: Tree) -> Result<Node, Fail>
-        requires below { Nests self.now.depth (F.pre self.now.names) (F.post self.now.names) }
-        ensures { GivesNode (read_rule table (read_named table) (spec.tree_rule tree self.now.takes_do self.now.in_rescue) (suc self.now.depth) (ahead cursor.old)) result (ahead cursor.new) }
-    {
-        let value = match tree {
-            Tree::Statement => self.statement(cursor)?,
-            Tree::Expression => self.expression(cursor)?,
-            Tree::NotExpression => self.not_expression(cursor)?,
-            Tree::RightSide => self.right_side(cursor)?,
-            Tree::Argument => self.argument(cursor)?,
-            Tree::Ternary => self.ternary(cursor)?,
-            Tree::RangeOperand => self.or_level(cursor)?,
-            Tree::OrOperand => self.and_level(cursor)?,
-            Tree::AndOperand => self.equality_level(cursor)?,
-            Tree::EqualityOperand => self.comparison_level(cursor)?,
-            Tree::ComparisonOperand => self.shift_level(cursor)?,
-            Tree::ShiftOperand => self.sum_level(cursor)?,
-            Tree::SumOperand => self.product_level(cursor)?,
-            Tree::ProductOperand => self.minus_level(cursor)?,
-            Tree::PowerOperand => self.power_level(cursor)?,
-            Tree::NotOperand => self.not_level(cursor)?,
-        };
-        Ok(value.node)
-    }
+/// A production that gives a node, at the level of that node.
+#[tactic(auto, unfolding(ruby_meaning::specs::Grammar::Table::table))]
+fn tree_here<F: Fn(Global, &mut Cursor<'_>, Part, u32) -> Result<Reading, Fail> + Copy>(
+    parser: &Parser<F>,
+    cursor: &mut Cursor<'_>,
+    tree: Tree,
+) -> Result<Node, Fail>
+    requires below { Nests parser.now.depth (F.pre parser.now.names) (F.post parser.now.names) }
+    ensures { GivesNode (read_rule table (read_named table) (spec.tree_rule tree parser.now.takes_do parser.now.in_rescue) (suc parser.now.depth) (ahead cursor.old)) result (ahead cursor.new) }
+{
+    let value = match tree {
+        Tree::Statement => statement(parser, cursor)?,
+        Tree::Expression => expression(parser, cursor)?,
+        Tree::NotExpression => not_expression(parser, cursor)?,
+        Tree::RightSide => right_side(parser, cursor)?,
+        Tree::Argument => argument(parser, cursor)?,
+        Tree::Ternary => ternary(parser, cursor)?,
+        Tree::RangeOperand => or_level(parser, cursor)?,
+        Tree::OrOperand => and_level(parser, cursor)?,
+        Tree::AndOperand => equality_level(parser, cursor)?,
+        Tree::EqualityOperand => comparison_level(parser, cursor)?,
+        Tree::ComparisonOperand => shift_level(parser, cursor)?,
+        Tree::ShiftOperand => sum_level(parser, cursor)?,
+        Tree::SumOperand => product_level(parser, cursor)?,
+        Tree::ProductOperand => minus_level(parser, cursor)?,
+        Tree::PowerOperand => power_level(parser, cursor)?,
+        Tree::NotOperand => not_level(parser, cursor)?,
+    };
+    Ok(value.node)
+}
 
-    /// Statements, at their own level.
-    pub fn statements_part(&self, cursor: &mut Cursor<'_>, part: Part) -> Result<Reading, Fail>
-        requires below { NestsBelow self.now.depth (F.pre self.now.names) (F.post self.now.names) }
-        requires statements { part.production ≡ p.Statements }
-        requires rescue { part.in_rescue ≡ self.now.in_rescue }
-        ensures { GivesPart part (read_named table (suc self.now.depth) part (ahead cursor.old)) result (ahead cursor.new) }
-    {
-        let statements = self.statement_list(cursor);
-        of_body(statements)
-    }
+/// Statements, at their own level.
+pub fn statements_part<F: Fn(Global, &mut Cursor<'_>, Part, u32) -> Result<Reading, Fail> + Copy>(
+    parser: &Parser<F>,
+    cursor: &mut Cursor<'_>,
+    part: Part,
+) -> Result<Reading, Fail>
+    requires below { NestsBelow parser.now.depth (F.pre parser.now.names) (F.post parser.now.names) }
+    requires statements { part.production ≡ p.Statements }
+    requires rescue { part.in_rescue ≡ parser.now.in_rescue }
+    ensures { GivesPart part (read_named table (suc parser.now.depth) part (ahead cursor.old)) result (ahead cursor.new) }
+{
+    let statements = statement_list(parser, cursor);
+    of_body(statements)
+}
 
-    /// What a production gives but for statements, at the level of a node that is made here.
-    pub fn part_here(&self, cursor: &mut Cursor<'_>, part: Part) -> Result<Reading, Fail>
-        requires below { Nests self.now.depth (F.pre self.now.names) (F.post self.now.names) }
-        requires takes { part.takes_do ≡ self.now.takes_do }
-        requires rescue { part.in_rescue ≡ self.now.in_rescue }
-        ensures { GivesPart part (read_named table (suc self.now.depth) part (ahead cursor.old)) result (ahead cursor.new) }
-    {
-        match part.production {
-            Production::Otherwise => of_body(self.otherwise(cursor)),
-            Production::OneValue => of_value(self.one_value_here(cursor)),
-            Production::NestedValue => of_value(self.nested_value_here(cursor)),
-            Production::Arguments(blocks) => of_args(self.arguments(cursor, blocks)),
-            Production::CommandArguments(blocks) => {
-                of_args(self.arguments_of_command(cursor, blocks))
-            }
-            Production::MorePairs(blocks) => of_args(self.pairs(cursor, blocks)),
-            production => match tree_of(production) {
-                Some(tree) => of_tree(self.tree_here(cursor, tree)),
-                None => Err(Fail::NoMemory),
-            },
+/// What a production gives but for statements, at the level of a node that is made here.
+pub fn part_here<F: Fn(Global, &mut Cursor<'_>, Part, u32) -> Result<Reading, Fail> + Copy>(
+    parser: &Parser<F>,
+    cursor: &mut Cursor<'_>,
+    part: Part,
+) -> Result<Reading, Fail>
+    requires below { Nests parser.now.depth (F.pre parser.now.names) (F.post parser.now.names) }
+    requires takes { part.takes_do ≡ parser.now.takes_do }
+    requires rescue { part.in_rescue ≡ parser.now.in_rescue }
+    ensures { GivesPart part (read_named table (suc parser.now.depth) part (ahead cursor.old)) result (ahead cursor.new) }
+{
+    match part.production {
+        Production::Otherwise => of_body(otherwise(parser, cursor)),
+        Production::OneValue => of_value(one_value_here(parser, cursor)),
+        Production::NestedValue => of_value(nested_value_here(parser, cursor)),
+        Production::Arguments(blocks) => of_args(arguments(parser, cursor, blocks)),
+        Production::CommandArguments(blocks) => {
+            of_args(arguments_of_command(parser, cursor, blocks))
         }
+        Production::MorePairs(blocks) => of_args(pairs(parser, cursor, blocks)),
+        production => match tree_of(production) {
+            Some(tree) => of_tree(tree_here(parser, cursor, tree)),
+            None => Err(Fail::NoMemory),
+        },
     }
 }

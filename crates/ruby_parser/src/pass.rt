@@ -7,8 +7,8 @@ ghost use Rattle.ruby_parser.specs.Answer.{StopsAt};
 
 use crate::read::{Halt, read_list};
 use crate::refusal::{construct_at, stand_in};
-use crate::sight::sights;
 use ruby_meaning::{Program, Stop, Tokens};
+use ruby_reading::sights;
 use std::alloc::Global;
 
 /// The most levels of a program's nodes.

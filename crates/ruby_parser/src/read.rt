@@ -7,18 +7,17 @@ ghost use Rattle.grammar.specs.Spelling.{IsFront};
 ghost use Rattle.ruby_meaning.specs.Grammar.Laws.{whole_file};
 ghost use Rattle.ruby_meaning.specs.Grammar.Refusals.{most_levels};
 ghost use Rattle.ruby_meaning.specs.Grammar.Table.{table};
-ghost use Rattle.ruby_parser.specs.Ahead.{ahead, class_code, see};
-ghost use Rattle.ruby_parser.specs.Named.{GivesPart, is_read};
+ghost use Rattle.ruby_reading.specs.Ahead.{ahead, class_code, see};
+ghost use Rattle.ruby_reading.specs.Named.{GivesPart, is_read};
 ghost use Rattle.ruby_parser.specs.NoLevel.{opens_of};
 ghost use Rattle.ruby_parser.specs.Refusing.{ReadsAll, TellsIf};
 ghost use Rattle.ruby_parser.specs.Endings as spec;
 
-use crate::cursor::{Cursor, Sight};
-use crate::names::Parser;
-use crate::value::{Body, Reading};
+use crate::parts::{part_here, statements_part};
 use descent::Fail;
 use opal_base::NoMemory;
 use ruby_meaning::{Mark, Part, Production, Sign, Word};
+use ruby_reading::{Body, Cursor, Parser, Reading, Sight};
 use std::alloc::Global;
 
 /// Statements of a file.
@@ -80,8 +79,8 @@ fn read_part(
         names: read_part,
     };
     match part.production {
-        Production::Statements => parser.statements_part(cursor, part),
-        _ => parser.part_here(cursor, part),
+        Production::Statements => statements_part(&parser, cursor, part),
+        _ => part_here(&parser, cursor, part),
     }
 }
 

@@ -6,16 +6,15 @@ ghost use Rattle.ruby_meaning.specs.Grammar.Laws.{whole_file};
 ghost use Rattle.ruby_meaning.specs.Grammar.Refusals.{most_levels, stand_ins};
 ghost use Rattle.ruby_meaning.specs.Grammar.Refusals as spec_of;
 ghost use Rattle.ruby_meaning.specs.Grammar.Table.{table};
-ghost use Rattle.ruby_parser.specs.Ahead.{see};
+ghost use Rattle.ruby_reading.specs.Ahead.{see};
 ghost use Rattle.ruby_parser.specs.Endings as endings;
 ghost use Rattle.ruby_parser.specs.Refusing as spec;
 
-use crate::cursor::Sight;
 use crate::read::{Halt, MOST_LEVELS, is_front, read_list};
-use crate::value::Body;
 use descent::either;
 use opal_base::{NoMemory, Pos};
 use ruby_meaning::{Construct, Mark, Sign, Token, TokenKind, Word};
+use ruby_reading::{Body, Sight};
 use std::alloc::Global;
 
 fn both(one: bool, other: bool) -> bool

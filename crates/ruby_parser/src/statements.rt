@@ -5,37 +5,34 @@ ghost use Rattle.grammar.specs.FormReaders.{next_in};
 ghost use Rattle.ruby_meaning.specs.Grammar.Actions as act;
 ghost use Rattle.ruby_meaning.specs.Grammar.Statements as s;
 ghost use Rattle.descent.specs.Gives.{Gives};
-ghost use Rattle.ruby_parser.specs.Ahead.{ahead, see, Makes, MakesAs};
-ghost use Rattle.ruby_parser.specs.Definitions.{shown_method};
-ghost use Rattle.ruby_parser.specs.Named.{GivesValue, Nests, NestsBelow, Reads, ReadsBody, ReadsValue};
-ghost use Rattle.ruby_parser.specs.Shown.{shown_body, shown_value};
+ghost use Rattle.ruby_reading.specs.Ahead.{ahead, see, Makes, MakesAs};
+ghost use Rattle.ruby_forms.specs.Definitions.{shown_method};
+ghost use Rattle.ruby_reading.specs.Named.{GivesValue, Nests, NestsBelow, Reads, ReadsBody, ReadsValue};
+ghost use Rattle.ruby_reading.specs.Shown.{shown_body, shown_value};
 ghost use Rattle.ruby_parser.specs.StatementValues as spec;
 
-use crate::assignment::is_place;
-use crate::begins::begins_statement;
-use crate::cursor::{Cursor, Sight};
-use crate::definitions::{MethodName, full_name, nothing};
-use crate::hash::first_span;
-use crate::lists::last_span;
-use crate::making::{fits, from_token, node, nodes, span_of, start, to_end, tokens};
-use crate::names::{Parser, Tree};
-use crate::targets::{multi_set, target_node};
-use crate::value::{Body, Reading, Value, Written};
 use descent::Fail;
 use opal_base::{Names, Span};
+use ruby_expressions::{
+    expression, is_place, more_targets, multi_set, star_target_below, target_node,
+};
+use ruby_forms::{MethodName, full_name, read_method_name};
 use ruby_meaning::{Kind, Mark, Node, Nodes, Part, Sign, Word};
+use ruby_parameters::{first_span, last_span};
+use ruby_reading::{
+    Body, Cursor, Parser, Reading, SEPARATORS, Sight, Tree, Value, Written, begins_statement, fits,
+    from_token, node, nodes, nothing, span_of, start, to_end, tokens,
+};
 use sqlite_items::{Boxed, Items};
 use std::alloc::Global;
-
-const SEPARATORS: [Sign; 2] = [Sign::Newline, Sign::Op(Mark::Semicolon)];
 
 /// Which keyword stands behind a statement.
 #[derive(Clone, Copy, Debug, PartialEq, Eq)]
 pub enum Behind {
     If,
     Unless,
-    /// `while` or `until`
-    Loop,
+    While,
+    Until,
 }
 
 /// A keyword and a condition behind a statement.
@@ -139,6 +136,24 @@ fn while_kind(alloc: Global, cond: Node, body: Node, body_first: bool) -> Result
     })
 }
 
+/// A statement that is done while a condition holds.
+fn looped(alloc: Global, cond: Node, statement: Value) -> Result<Kind, Fail>
+    ensures { Makes (spec.looped cond (shown_value statement)) result }
+{
+    let body_first = statement.written.is(Written::Begun);
+    while_kind(alloc, cond, statement.node, body_first)
+}
+
+fn with_span(node: Node, span: Span) -> Node
+    ensures { result ≡ act.replaced span node.mark node }
+{
+    Node {
+        kind: node.kind,
+        span,
+        mark: node.mark,
+    }
+}
+
 fn modified_kind(
     alloc: Global,
     behind: Behind,
@@ -151,10 +166,8 @@ fn modified_kind(
     match behind {
         Behind::If => if_kind(alloc, cond, statement.node, empty_at(alloc, span)?),
         Behind::Unless => if_kind(alloc, cond, empty_at(alloc, span)?, statement.node),
-        Behind::Loop => {
-            let body_first = statement.written.is(Written::Begun);
-            while_kind(alloc, cond, statement.node, body_first)
-        }
+        Behind::While => looped(alloc, cond, statement),
+        Behind::Until => looped(alloc, with_span(cond, span), statement),
     }
 }
 
@@ -170,7 +183,7 @@ fn modified(alloc: Global, statement: Value, modifier: Modifier<'_>) -> Result<V
     })
 }
 
-/// The condition of an `until`.
+/// The condition of an `until`, which gets the span of the whole.
 fn until_condition(alloc: Global, sign: Sight<'_>, cond: Node) -> Result<Node, Fail>
     ensures { Makes ((act.until_condition (see sign.entry, cond)).1) result }
 {
@@ -216,244 +229,286 @@ fn with_line(found: Nodes, line: Option<Node>) -> Result<Nodes, Fail>
     Ok(found)
 }
 
-impl<F: Fn(Global, &mut Cursor<'_>, Part, u32) -> Result<Reading, Fail> + Copy> Parser<F> {
-    /// `"alias" mname mname`
-    #[tactic(auto, unfolding(ruby_meaning::specs::Grammar::Table::table, ruby_meaning::specs::Grammar::Statements::alias_statement))]
-    fn alias_statement(&self, cursor: &mut Cursor<'_>) -> Result<Value, Fail>
-        ensures { ReadsValue (s.alias_statement self.now.in_rescue) (suc self.now.depth) cursor.old result cursor.new }
-    {
-        let sign = cursor.take(Sign::Keyword(Word::Alias))?;
-        let name = self.method_name(cursor)?;
-        let old = self.method_name(cursor)?;
-        alias_value(self.alloc, sign, name, old)
-    }
+/// `"alias" mname mname`
+#[tactic(auto, unfolding(ruby_meaning::specs::Grammar::Table::table, ruby_meaning::specs::Grammar::Statements::alias_statement))]
+fn alias_statement<F: Fn(Global, &mut Cursor<'_>, Part, u32) -> Result<Reading, Fail> + Copy>(
+    parser: &Parser<F>,
+    cursor: &mut Cursor<'_>,
+) -> Result<Value, Fail>
+    ensures { ReadsValue (s.alias_statement parser.now.in_rescue) (suc parser.now.depth) cursor.old result cursor.new }
+{
+    let sign = cursor.take(Sign::Keyword(Word::Alias))?;
+    let name = read_method_name(parser, cursor)?;
+    let old = read_method_name(parser, cursor)?;
+    alias_value(parser.alloc, sign, name, old)
+}
 
-    /// A name of a method behind a comma.
-    #[tactic(auto, unfolding(ruby_meaning::specs::Grammar::Table::table))]
-    fn next_method<'a>(&self, cursor: &mut Cursor<'a>) -> Result<MethodName<'a>, Fail>
-        ensures { Reads shown_method spec.next_method self.now.depth cursor.old result cursor.new }
-    {
-        cursor.take(Sign::Op(Mark::Comma))?;
-        self.method_name(cursor)
-    }
+/// A name of a method behind a comma.
+#[tactic(auto, unfolding(ruby_meaning::specs::Grammar::Table::table))]
+fn next_method<'a, F: Fn(Global, &mut Cursor<'_>, Part, u32) -> Result<Reading, Fail> + Copy>(
+    parser: &Parser<F>,
+    cursor: &mut Cursor<'a>,
+) -> Result<MethodName<'a>, Fail>
+    ensures { Reads shown_method spec.next_method parser.now.depth cursor.old result cursor.new }
+{
+    cursor.take(Sign::Op(Mark::Comma))?;
+    read_method_name(parser, cursor)
+}
 
-    /// Names of methods that each stand behind a comma, behind those found.
-    fn more_methods<'a>(
-        &self,
-        cursor: &mut Cursor<'a>,
-        found: Items<MethodName<'a>>,
-    ) -> Result<Items<MethodName<'a>>, Fail>
-        ensures { Gives spec.shown_methods (spec.methods_from self.now.depth (length (ahead cursor.old)) (spec.shown_methods found.entry) (ahead cursor.old)) result (ahead cursor.new) }
-    {
-        let mut found = found;
-        for _turn in 0..cursor.left() {
-            if !cursor.sees(Sign::Op(Mark::Comma)) {
-                return Ok(found);
-            }
-            found.push(self.next_method(cursor)?)?;
+/// Names of methods that each stand behind a comma, behind those found.
+fn more_methods<'a, F: Fn(Global, &mut Cursor<'_>, Part, u32) -> Result<Reading, Fail> + Copy>(
+    parser: &Parser<F>,
+    cursor: &mut Cursor<'a>,
+    found: Items<MethodName<'a>>,
+) -> Result<Items<MethodName<'a>>, Fail>
+    ensures { Gives spec.shown_methods (spec.methods_from parser.now.depth (length (ahead cursor.old)) (spec.shown_methods found.entry) (ahead cursor.old)) result (ahead cursor.new) }
+{
+    let mut found = found;
+    for _turn in 0..cursor.left() {
+        if !cursor.sees(Sign::Op(Mark::Comma)) {
+            return Ok(found);
         }
-        Ok(found)
+        found.push(next_method(parser, cursor)?)?;
     }
+    Ok(found)
+}
 
-    /// `mname ("," mname)*`
-    #[tactic(auto, using(grammar::proofs::Loops::read_many_from_is), unfolding(ruby_meaning::specs::Grammar::Table::table))]
-    fn methods<'a>(&self, cursor: &mut Cursor<'a>) -> Result<Items<MethodName<'a>>, Fail>
-        ensures { Reads spec.shown_methods spec.methods self.now.depth cursor.old result cursor.new }
-    {
-        let mut found = Items::new(self.alloc);
-        found.push(self.method_name(cursor)?)?;
-        self.more_methods(cursor, found)
+/// `mname ("," mname)*`
+#[tactic(auto, using(grammar::proofs::Loops::read_many_from_is), unfolding(ruby_meaning::specs::Grammar::Table::table))]
+fn methods<'a, F: Fn(Global, &mut Cursor<'_>, Part, u32) -> Result<Reading, Fail> + Copy>(
+    parser: &Parser<F>,
+    cursor: &mut Cursor<'a>,
+) -> Result<Items<MethodName<'a>>, Fail>
+    ensures { Reads spec.shown_methods spec.methods parser.now.depth cursor.old result cursor.new }
+{
+    let mut found = Items::new(parser.alloc);
+    found.push(read_method_name(parser, cursor)?)?;
+    more_methods(parser, cursor, found)
+}
+
+/// `"undef" mname ("," mname)*`
+#[tactic(auto, unfolding(ruby_meaning::specs::Grammar::Table::table, ruby_meaning::specs::Grammar::Statements::undef_statement))]
+fn undef_statement<F: Fn(Global, &mut Cursor<'_>, Part, u32) -> Result<Reading, Fail> + Copy>(
+    parser: &Parser<F>,
+    cursor: &mut Cursor<'_>,
+) -> Result<Value, Fail>
+    ensures { ReadsValue (s.undef_statement parser.now.in_rescue) (suc parser.now.depth) cursor.old result cursor.new }
+{
+    let sign = cursor.take(Sign::Keyword(Word::Undef))?;
+    let methods = methods(parser, cursor)?;
+    undef_value(parser.alloc, sign, methods)
+}
+
+/// `"*" target ("," target)+ "=" rhs`
+#[tactic(auto, unfolding(ruby_meaning::specs::Grammar::Table::table, ruby_meaning::specs::Grammar::Statements::starred_set))]
+fn starred_set<F: Fn(Global, &mut Cursor<'_>, Part, u32) -> Result<Reading, Fail> + Copy>(
+    parser: &Parser<F>,
+    cursor: &mut Cursor<'_>,
+) -> Result<Value, Fail>
+    requires below { Nests parser.now.depth (F.pre parser.now.names) (F.post parser.now.names) }
+    ensures { ReadsValue (s.starred_set parser.now.in_rescue) (suc parser.now.depth) cursor.old result cursor.new }
+{
+    let first = star_target_below(parser, cursor)?;
+    let span = first.span;
+    let targets = more_targets(parser, cursor, first, false)?;
+    Ok(Value {
+        node: multi_set(parser.alloc, span, targets)?,
+        written: Written::Other,
+    })
+}
+
+/// `target ("," target)+ "=" rhs`, or an expression
+#[tactic(auto, unfolding(ruby_meaning::specs::Grammar::Table::table, ruby_meaning::specs::Grammar::Statements::several_set))]
+fn several_set<F: Fn(Global, &mut Cursor<'_>, Part, u32) -> Result<Reading, Fail> + Copy>(
+    parser: &Parser<F>,
+    cursor: &mut Cursor<'_>,
+) -> Result<Value, Fail>
+    requires below { Nests parser.now.depth (F.pre parser.now.names) (F.post parser.now.names) }
+    ensures { ReadsValue (s.several_set parser.now.in_rescue) (suc parser.now.depth) cursor.old result cursor.new }
+{
+    let left = expression(&parser.with_do(true), cursor)?;
+    if !cursor.sees(Sign::Op(Mark::Comma)) || !is_place(&left) || !fits(&left.node, parser.depth) {
+        return Ok(left);
     }
+    let first = target_node(parser.alloc, left)?;
+    let span = first.span;
+    let targets = more_targets(parser, cursor, first, true)?;
+    Ok(Value {
+        node: multi_set(parser.alloc, span, targets)?,
+        written: Written::Other,
+    })
+}
 
-    /// `"undef" mname ("," mname)*`
-    #[tactic(auto, unfolding(ruby_meaning::specs::Grammar::Table::table, ruby_meaning::specs::Grammar::Statements::undef_statement))]
-    fn undef_statement(&self, cursor: &mut Cursor<'_>) -> Result<Value, Fail>
-        ensures { ReadsValue (s.undef_statement self.now.in_rescue) (suc self.now.depth) cursor.old result cursor.new }
-    {
-        let sign = cursor.take(Sign::Keyword(Word::Undef))?;
-        let methods = self.methods(cursor)?;
-        undef_value(self.alloc, sign, methods)
+/// A statement with no keyword behind it.
+#[tactic(auto, unfolding(ruby_meaning::specs::Grammar::Table::table, ruby_meaning::specs::Grammar::Statements::simple, ruby_meaning::specs::Grammar::Statements::alias_statement, ruby_meaning::specs::Grammar::Statements::undef_statement, ruby_meaning::specs::Grammar::Statements::starred_set, ruby_meaning::specs::Grammar::Statements::star_target))]
+fn simple<F: Fn(Global, &mut Cursor<'_>, Part, u32) -> Result<Reading, Fail> + Copy>(
+    parser: &Parser<F>,
+    cursor: &mut Cursor<'_>,
+) -> Result<Value, Fail>
+    requires below { Nests parser.now.depth (F.pre parser.now.names) (F.post parser.now.names) }
+    ensures { ReadsValue (s.simple parser.now.in_rescue) (suc parser.now.depth) cursor.old result cursor.new }
+{
+    if cursor.sees(Sign::Keyword(Word::Alias)) {
+        alias_statement(parser, cursor)
+    } else if cursor.sees(Sign::Keyword(Word::Undef)) {
+        undef_statement(parser, cursor)
+    } else if cursor.sees(Sign::Op(Mark::Star)) {
+        starred_set(parser, cursor)
+    } else {
+        several_set(parser, cursor)
     }
+}
 
-    /// `"*" target ("," target)+ "=" rhs`
-    #[tactic(auto, unfolding(ruby_meaning::specs::Grammar::Table::table, ruby_meaning::specs::Grammar::Statements::starred_set))]
-    fn starred_set(&self, cursor: &mut Cursor<'_>) -> Result<Value, Fail>
-        requires below { Nests self.now.depth (F.pre self.now.names) (F.post self.now.names) }
-        ensures { ReadsValue (s.starred_set self.now.in_rescue) (suc self.now.depth) cursor.old result cursor.new }
-    {
-        let first = self.star_target_below(cursor)?;
-        let span = first.span;
-        let targets = self.more_targets(cursor, first, false)?;
-        Ok(Value {
-            node: multi_set(self.alloc, span, targets)?,
-            written: Written::Other,
-        })
+/// `"until" expr`
+#[tactic(auto, using(ruby_reading::proofs::Named::nests_below, ruby_parameters::proofs::Levels::node_some, crate::proofs::OneLevel::needs_one, crate::proofs::OneLevel::needs_not_one), unfolding(ruby_meaning::specs::Grammar::Table::table))]
+fn until_modifier<'a, F: Fn(Global, &mut Cursor<'_>, Part, u32) -> Result<Reading, Fail> + Copy>(
+    parser: &Parser<F>,
+    cursor: &mut Cursor<'a>,
+) -> Result<Modifier<'a>, Fail>
+    requires below { Nests parser.now.depth (F.pre parser.now.names) (F.post parser.now.names) }
+    ensures { Reads spec.shown_modifier (spec.until_modifier parser.now.in_rescue) parser.now.depth cursor.old result cursor.new }
+{
+    if parser.depth == 0 {
+        return Err(Fail::Refused);
     }
+    let sign = cursor.take(Sign::Keyword(Word::Until))?;
+    let cond = parser.below().tree(cursor, Tree::Expression, false)?;
+    Ok(Modifier {
+        sign,
+        cond: until_condition(parser.alloc, sign, cond)?,
+        behind: Behind::Until,
+    })
+}
 
-    /// `target ("," target)+ "=" rhs`, or an expression
-    #[tactic(auto, unfolding(ruby_meaning::specs::Grammar::Table::table, ruby_meaning::specs::Grammar::Statements::several_set))]
-    fn several_set(&self, cursor: &mut Cursor<'_>) -> Result<Value, Fail>
-        requires below { Nests self.now.depth (F.pre self.now.names) (F.post self.now.names) }
-        ensures { ReadsValue (s.several_set self.now.in_rescue) (suc self.now.depth) cursor.old result cursor.new }
-    {
-        let left = self.with_do(true).expression(cursor)?;
-        if !cursor.sees(Sign::Op(Mark::Comma))
-            || !is_place(&left)
-            || !fits(&left.node, self.depth)
-        {
-            return Ok(left);
+/// `("if"|"unless"|"while") expr`
+#[tactic(auto, unfolding(ruby_meaning::specs::Grammar::Table::table))]
+fn condition<'a, F: Fn(Global, &mut Cursor<'_>, Part, u32) -> Result<Reading, Fail> + Copy>(
+    parser: &Parser<F>,
+    cursor: &mut Cursor<'a>,
+    word: Word,
+    takes_do: bool,
+    behind: Behind,
+) -> Result<Modifier<'a>, Fail>
+    requires below { Nests parser.now.depth (F.pre parser.now.names) (F.post parser.now.names) }
+    ensures { Reads spec.shown_modifier (spec.condition word takes_do (spec.behind_code behind) parser.now.in_rescue) parser.now.depth cursor.old result cursor.new }
+{
+    let sign = cursor.take(Sign::Keyword(word))?;
+    let cond = parser.tree(cursor, Tree::Expression, takes_do)?;
+    Ok(Modifier { sign, cond, behind })
+}
+
+/// `("if"|"unless"|"while"|"until") expr`
+#[tactic(auto, unfolding(ruby_meaning::specs::Grammar::Table::table, ruby_meaning::specs::Grammar::Statements::modifier))]
+fn read_modifier<'a, F: Fn(Global, &mut Cursor<'_>, Part, u32) -> Result<Reading, Fail> + Copy>(
+    parser: &Parser<F>,
+    cursor: &mut Cursor<'a>,
+) -> Result<Modifier<'a>, Fail>
+    requires below { Nests parser.now.depth (F.pre parser.now.names) (F.post parser.now.names) }
+    ensures { Reads spec.shown_modifier (s.modifier parser.now.in_rescue) parser.now.depth cursor.old result cursor.new }
+{
+    if cursor.sees(Sign::Keyword(Word::If)) {
+        condition(parser, cursor, Word::If, true, Behind::If)
+    } else if cursor.sees(Sign::Keyword(Word::Unless)) {
+        condition(parser, cursor, Word::Unless, true, Behind::Unless)
+    } else if cursor.sees(Sign::Keyword(Word::While)) {
+        condition(parser, cursor, Word::While, false, Behind::While)
+    } else {
+        until_modifier(parser, cursor)
+    }
+}
+
+/// Keywords and conditions behind a statement.
+fn modifiers<F: Fn(Global, &mut Cursor<'_>, Part, u32) -> Result<Reading, Fail> + Copy>(
+    parser: &Parser<F>,
+    cursor: &mut Cursor<'_>,
+    first: Value,
+) -> Result<Value, Fail>
+    requires below { Nests parser.now.depth (F.pre parser.now.names) (F.post parser.now.names) }
+    ensures { GivesValue (spec.modifiers_from parser.now.in_rescue parser.now.depth (length (ahead cursor.old)) (shown_value first) (ahead cursor.old)) result (ahead cursor.new) }
+{
+    let mut value = first;
+    for _turn in 0..cursor.left() {
+        if !sees_modifier(cursor) || !fits(&value.node, parser.depth) {
+            return Ok(value);
         }
-        let first = target_node(self.alloc, left)?;
-        let span = first.span;
-        let targets = self.more_targets(cursor, first, true)?;
-        Ok(Value {
-            node: multi_set(self.alloc, span, targets)?,
-            written: Written::Other,
-        })
+        let modifier = read_modifier(parser, cursor)?;
+        value = modified(parser.alloc, value, modifier)?;
     }
+    Ok(value)
+}
 
-    /// A statement with no keyword behind it.
-    #[tactic(auto, unfolding(ruby_meaning::specs::Grammar::Table::table, ruby_meaning::specs::Grammar::Statements::simple, ruby_meaning::specs::Grammar::Statements::alias_statement, ruby_meaning::specs::Grammar::Statements::undef_statement, ruby_meaning::specs::Grammar::Statements::starred_set, ruby_meaning::specs::Grammar::Statements::star_target))]
-    fn simple(&self, cursor: &mut Cursor<'_>) -> Result<Value, Fail>
-        requires below { Nests self.now.depth (F.pre self.now.names) (F.post self.now.names) }
-        ensures { ReadsValue (s.simple self.now.in_rescue) (suc self.now.depth) cursor.old result cursor.new }
-    {
-        if cursor.sees(Sign::Keyword(Word::Alias)) {
-            self.alias_statement(cursor)
-        } else if cursor.sees(Sign::Keyword(Word::Undef)) {
-            self.undef_statement(cursor)
-        } else if cursor.sees(Sign::Op(Mark::Star)) {
-            self.starred_set(cursor)
-        } else {
-            self.several_set(cursor)
+/// A statement.
+#[tactic(auto, unfolding(ruby_meaning::specs::Grammar::Table::table, ruby_meaning::specs::Grammar::Statements::statement))]
+pub fn statement<F: Fn(Global, &mut Cursor<'_>, Part, u32) -> Result<Reading, Fail> + Copy>(
+    parser: &Parser<F>,
+    cursor: &mut Cursor<'_>,
+) -> Result<Value, Fail>
+    requires below { Nests parser.now.depth (F.pre parser.now.names) (F.post parser.now.names) }
+    ensures { ReadsValue (s.statement parser.now.in_rescue) (suc parser.now.depth) cursor.old result cursor.new }
+{
+    let first = simple(parser, cursor)?;
+    modifiers(parser, cursor, first)
+}
+
+/// A statement or none.
+#[tactic(auto, unfolding(ruby_meaning::specs::Grammar::Table::table, ruby_meaning::specs::Grammar::Statements::line))]
+fn line<F: Fn(Global, &mut Cursor<'_>, Part, u32) -> Result<Reading, Fail> + Copy>(
+    parser: &Parser<F>,
+    cursor: &mut Cursor<'_>,
+) -> Result<Option<Node>, Fail>
+    requires below { NestsBelow parser.now.depth (F.pre parser.now.names) (F.post parser.now.names) }
+    ensures { Reads (λ n. n) (s.line parser.now.in_rescue) parser.now.depth cursor.old result cursor.new }
+{
+    if !begins_statement(cursor) {
+        return Ok(None);
+    }
+    Ok(Some(parser.next_statement(cursor)?))
+}
+
+/// The same behind a separator.
+#[tactic(auto, unfolding(ruby_meaning::specs::Grammar::Table::table))]
+fn next_line<F: Fn(Global, &mut Cursor<'_>, Part, u32) -> Result<Reading, Fail> + Copy>(
+    parser: &Parser<F>,
+    cursor: &mut Cursor<'_>,
+) -> Result<Option<Node>, Fail>
+    requires below { NestsBelow parser.now.depth (F.pre parser.now.names) (F.post parser.now.names) }
+    ensures { Reads (λ n. n) (spec.next_line parser.now.in_rescue) parser.now.depth cursor.old result cursor.new }
+{
+    cursor.take_one_of(&SEPARATORS)?;
+    line(parser, cursor)
+}
+
+/// The statements of lines, behind those found.
+fn more_lines<F: Fn(Global, &mut Cursor<'_>, Part, u32) -> Result<Reading, Fail> + Copy>(
+    parser: &Parser<F>,
+    cursor: &mut Cursor<'_>,
+    found: Nodes,
+) -> Result<Nodes, Fail>
+    requires below { NestsBelow parser.now.depth (F.pre parser.now.names) (F.post parser.now.names) }
+    ensures { Gives (λ xs. xs) (spec.lines_from parser.now.in_rescue parser.now.depth (length (ahead cursor.old)) found (ahead cursor.old)) result (ahead cursor.new) }
+{
+    let mut found = found;
+    for _turn in 0..cursor.left() {
+        if !cursor.sees_one_of(&SEPARATORS) {
+            return Ok(found);
         }
+        let line = next_line(parser, cursor)?;
+        found = with_line(found, line)?;
     }
+    Ok(found)
+}
 
-    /// `"until" expr`
-    #[tactic(auto, using(crate::proofs::Named::nests_below, crate::proofs::Levels::node_some, crate::proofs::OneLevel::needs_one, crate::proofs::OneLevel::needs_not_one), unfolding(ruby_meaning::specs::Grammar::Table::table))]
-    fn until_modifier<'a>(&self, cursor: &mut Cursor<'a>) -> Result<Modifier<'a>, Fail>
-        requires below { Nests self.now.depth (F.pre self.now.names) (F.post self.now.names) }
-        ensures { Reads spec.shown_modifier (spec.until_modifier self.now.in_rescue) self.now.depth cursor.old result cursor.new }
-    {
-        if self.depth == 0 {
-            return Err(Fail::Refused);
-        }
-        let sign = cursor.take(Sign::Keyword(Word::Until))?;
-        let cond = self.below().tree(cursor, Tree::Expression, false)?;
-        Ok(Modifier {
-            sign,
-            cond: until_condition(self.alloc, sign, cond)?,
-            behind: Behind::Loop,
-        })
-    }
-
-    /// `("if"|"unless"|"while") expr`
-    #[tactic(auto, unfolding(ruby_meaning::specs::Grammar::Table::table))]
-    fn condition<'a>(
-        &self,
-        cursor: &mut Cursor<'a>,
-        word: Word,
-        takes_do: bool,
-        behind: Behind,
-    ) -> Result<Modifier<'a>, Fail>
-        requires below { Nests self.now.depth (F.pre self.now.names) (F.post self.now.names) }
-        ensures { Reads spec.shown_modifier (spec.condition word takes_do (spec.behind_code behind) self.now.in_rescue) self.now.depth cursor.old result cursor.new }
-    {
-        let sign = cursor.take(Sign::Keyword(word))?;
-        let cond = self.tree(cursor, Tree::Expression, takes_do)?;
-        Ok(Modifier { sign, cond, behind })
-    }
-
-    /// `("if"|"unless"|"while"|"until") expr`
-    #[tactic(auto, unfolding(ruby_meaning::specs::Grammar::Table::table, ruby_meaning::specs::Grammar::Statements::modifier))]
-    fn modifier<'a>(&self, cursor: &mut Cursor<'a>) -> Result<Modifier<'a>, Fail>
-        requires below { Nests self.now.depth (F.pre self.now.names) (F.post self.now.names) }
-        ensures { Reads spec.shown_modifier (s.modifier self.now.in_rescue) self.now.depth cursor.old result cursor.new }
-    {
-        if cursor.sees(Sign::Keyword(Word::If)) {
-            self.condition(cursor, Word::If, true, Behind::If)
-        } else if cursor.sees(Sign::Keyword(Word::Unless)) {
-            self.condition(cursor, Word::Unless, true, Behind::Unless)
-        } else if cursor.sees(Sign::Keyword(Word::While)) {
-            self.condition(cursor, Word::While, false, Behind::Loop)
-        } else {
-            self.until_modifier(cursor)
-        }
-    }
-
-    /// Keywords and conditions behind a statement.
-    fn modifiers(&self, cursor: &mut Cursor<'_>, first: Value) -> Result<Value, Fail>
-        requires below { Nests self.now.depth (F.pre self.now.names) (F.post self.now.names) }
-        ensures { GivesValue (spec.modifiers_from self.now.in_rescue self.now.depth (length (ahead cursor.old)) (shown_value first) (ahead cursor.old)) result (ahead cursor.new) }
-    {
-        let mut value = first;
-        for _turn in 0..cursor.left() {
-            if !sees_modifier(cursor) || !fits(&value.node, self.depth) {
-                return Ok(value);
-            }
-            let modifier = self.modifier(cursor)?;
-            value = modified(self.alloc, value, modifier)?;
-        }
-        Ok(value)
-    }
-
-    /// A statement.
-    #[tactic(auto, unfolding(ruby_meaning::specs::Grammar::Table::table, ruby_meaning::specs::Grammar::Statements::statement))]
-    pub fn statement(&self, cursor: &mut Cursor<'_>) -> Result<Value, Fail>
-        requires below { Nests self.now.depth (F.pre self.now.names) (F.post self.now.names) }
-        ensures { ReadsValue (s.statement self.now.in_rescue) (suc self.now.depth) cursor.old result cursor.new }
-    {
-        let first = self.simple(cursor)?;
-        self.modifiers(cursor, first)
-    }
-
-    /// A statement or none.
-    #[tactic(auto, unfolding(ruby_meaning::specs::Grammar::Table::table, ruby_meaning::specs::Grammar::Statements::line))]
-    fn line(&self, cursor: &mut Cursor<'_>) -> Result<Option<Node>, Fail>
-        requires below { NestsBelow self.now.depth (F.pre self.now.names) (F.post self.now.names) }
-        ensures { Reads (λ n. n) (s.line self.now.in_rescue) self.now.depth cursor.old result cursor.new }
-    {
-        if !begins_statement(cursor) {
-            return Ok(None);
-        }
-        Ok(Some(self.next_statement(cursor)?))
-    }
-
-    /// The same behind a separator.
-    #[tactic(auto, unfolding(ruby_meaning::specs::Grammar::Table::table))]
-    fn next_line(&self, cursor: &mut Cursor<'_>) -> Result<Option<Node>, Fail>
-        requires below { NestsBelow self.now.depth (F.pre self.now.names) (F.post self.now.names) }
-        ensures { Reads (λ n. n) (spec.next_line self.now.in_rescue) self.now.depth cursor.old result cursor.new }
-    {
-        cursor.take_one_of(&SEPARATORS)?;
-        self.line(cursor)
-    }
-
-    /// The statements of lines, behind those found.
-    fn more_lines(&self, cursor: &mut Cursor<'_>, found: Nodes) -> Result<Nodes, Fail>
-        requires below { NestsBelow self.now.depth (F.pre self.now.names) (F.post self.now.names) }
-        ensures { Gives (λ xs. xs) (spec.lines_from self.now.in_rescue self.now.depth (length (ahead cursor.old)) found (ahead cursor.old)) result (ahead cursor.new) }
-    {
-        let mut found = found;
-        for _turn in 0..cursor.left() {
-            if !cursor.sees_one_of(&SEPARATORS) {
-                return Ok(found);
-            }
-            let line = self.next_line(cursor)?;
-            found = with_line(found, line)?;
-        }
-        Ok(found)
-    }
-
-    /// Statements or none, with separators between them.
-    #[tactic(auto, using(crate::proofs::StatementLists::lines_from_is, crate::proofs::StatementLists::first_line), unfolding(ruby_meaning::specs::Grammar::Table::table, ruby_meaning::specs::Grammar::Statements::statement_list))]
-    pub fn statement_list(&self, cursor: &mut Cursor<'_>) -> Result<Body, Fail>
-        requires below { NestsBelow self.now.depth (F.pre self.now.names) (F.post self.now.names) }
-        ensures { ReadsBody (s.statement_list self.now.in_rescue) (suc self.now.depth) cursor.old result cursor.new }
-    {
-        let line = self.line(cursor)?;
-        let found = with_line(Items::new(self.alloc), line)?;
-        let found = self.more_lines(cursor, found)?;
-        sequence_of(self.alloc, found)
-    }
+/// Statements or none, with separators between them.
+#[tactic(auto, using(crate::proofs::StatementLists::lines_from_is, crate::proofs::StatementLists::first_line), unfolding(ruby_meaning::specs::Grammar::Table::table, ruby_meaning::specs::Grammar::Statements::statement_list))]
+pub fn statement_list<F: Fn(Global, &mut Cursor<'_>, Part, u32) -> Result<Reading, Fail> + Copy>(
+    parser: &Parser<F>,
+    cursor: &mut Cursor<'_>,
+) -> Result<Body, Fail>
+    requires below { NestsBelow parser.now.depth (F.pre parser.now.names) (F.post parser.now.names) }
+    ensures { ReadsBody (s.statement_list parser.now.in_rescue) (suc parser.now.depth) cursor.old result cursor.new }
+{
+    let line = line(parser, cursor)?;
+    let found = with_line(Items::new(parser.alloc), line)?;
+    let found = more_lines(parser, cursor, found)?;
+    sequence_of(parser.alloc, found)
 }

@@ -1,6 +1,6 @@
 use Rattle.std.proofs.Common.{◌≡◌, ◌≤◌, ap, map, sym, ◌∙◌, length, subst}
 use Rattle.ruby_meaning.specs.Grammar.Laws.{sight}
-use Rattle.ruby_parser.specs.Ahead.{see}
+use Rattle.ruby_reading.specs.Ahead.{see}
 use Rattle.ruby_parser.specs.Refusing.{ConstructIs}
 use Rattle.ruby_parser.proofs.Constructs.{program_told, refusal_told, stop_before, stop_within}
 use Rattle.ruby_parser.proofs.pass.parse.Goals as goal

@@ -3,7 +3,7 @@ use Rattle.grammar.specs.Spelling.{IsFront}
 use Rattle.ruby_meaning.specs.Grammar.Laws.{whole_file}
 use Rattle.ruby_meaning.specs.Grammar.Refusals.{most_levels}
 use Rattle.ruby_meaning.specs.Grammar.Table.{table}
-use Rattle.ruby_parser.specs.Ahead.{ahead, see}
+use Rattle.ruby_reading.specs.Ahead.{ahead, see}
 use Rattle.ruby_parser.specs.Endings.{ended}
 use Rattle.ruby_parser.specs.Refusing.{TellsIf}
 use Rattle.ruby_parser.proofs.Wholes.{front_told}

@@ -1,6 +1,6 @@
 use Rattle.std.proofs.Common.{◌≡◌, ap, sym, ◌∙◌, length, map, subst}
 use Rattle.std.proofs.lemmas.List.{length-map}
-use Rattle.ruby_parser.specs.Ahead.{ahead, see}
+use Rattle.ruby_reading.specs.Ahead.{ahead, see}
 use Rattle.ruby_parser.specs.Endings.{whole}
 use Rattle.ruby_parser.specs.Refusing.{ReadsAll}
 use Rattle.ruby_parser.proofs.Wholes.{whole_told}

@@ -1,5 +1,5 @@
 use Rattle.std.proofs.Common.{◌≡◌, Err, ap, sym, ◌∙◌}
-use Rattle.ruby_parser.specs.Ahead.{ahead}
+use Rattle.ruby_reading.specs.Ahead.{ahead}
 use Rattle.ruby_parser.proofs.NoLevel.{no_level}
 use Rattle.ruby_parser.proofs.read.read_nothing.Goals as goal
 

@@ -1,6 +1,6 @@
 use Rattle.std.proofs.Common.{◌≡◌, ap, map, ◌∙◌}
 use Rattle.ruby_meaning.specs.Grammar.Refusals.{is_jump, last_seen}
-use Rattle.ruby_parser.specs.Ahead.{see}
+use Rattle.ruby_reading.specs.Ahead.{see}
 use Rattle.ruby_parser.specs.Refusing.{holds}
 use Rattle.ruby_parser.proofs.Signs.{sign_test}
 use Rattle.ruby_parser.proofs.Told.{starts_told}

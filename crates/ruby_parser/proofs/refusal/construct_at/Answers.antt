@@ -1,5 +1,5 @@
 use Rattle.std.proofs.Common.{◌≡◌, map}
-use Rattle.ruby_parser.specs.Ahead.{see}
+use Rattle.ruby_reading.specs.Ahead.{see}
 use Rattle.ruby_parser.proofs.Constructs.{named_told}
 use Rattle.ruby_parser.proofs.refusal.construct_at.Goals as goal
 

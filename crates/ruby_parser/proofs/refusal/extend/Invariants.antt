@@ -1,6 +1,6 @@
 use Rattle.std.proofs.Common.{◌≡◌, ◌++◌, drop, map}
 use Rattle.ruby_meaning.specs.Grammar.Refusals.{stand_ins}
-use Rattle.ruby_parser.specs.Ahead.{see}
+use Rattle.ruby_reading.specs.Ahead.{see}
 use Rattle.ruby_parser.proofs.refusal.extend.Given as goal
 
 abbrev pub invariant-loop-sign : goal.invariant-loop-sign

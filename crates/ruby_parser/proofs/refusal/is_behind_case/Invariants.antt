@@ -1,5 +1,5 @@
 use Rattle.std.proofs.Common.{◌≡◌, false, drop, map}
-use Rattle.ruby_parser.specs.Ahead.{see}
+use Rattle.ruby_reading.specs.Ahead.{see}
 use Rattle.ruby_parser.specs.Refusing.{case_from}
 use Rattle.ruby_parser.proofs.refusal.is_behind_case.Given as goal
 

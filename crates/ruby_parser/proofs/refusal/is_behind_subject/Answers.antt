@@ -1,6 +1,6 @@
 use Rattle.std.proofs.Common.{◌≡◌, None, ap, map, sym, ◌∙◌}
 use Rattle.std.specs.Prelude.{not}
-use Rattle.ruby_parser.specs.Ahead.{see}
+use Rattle.ruby_reading.specs.Ahead.{see}
 use Rattle.ruby_parser.proofs.Signs.{case_is}
 use Rattle.ruby_parser.proofs.Told.{subject_told}
 use Rattle.ruby_parser.proofs.refusal.is_behind_subject.Goals as goal

@@ -1,5 +1,5 @@
 use Rattle.std.proofs.Common.{map}
-use Rattle.ruby_parser.specs.Ahead.{see}
+use Rattle.ruby_reading.specs.Ahead.{see}
 use Rattle.ruby_parser.proofs.Told.{keyword_told}
 use Rattle.ruby_parser.proofs.refusal.is_keyword_parameter.Goals as goal
 

@@ -5,7 +5,7 @@ use Rattle.grammar.specs.Spelling.{IsFront}
 use Rattle.ruby_meaning.specs.Grammar.Laws.{whole_file}
 use Rattle.ruby_meaning.specs.Grammar.Refusals.{most_levels}
 use Rattle.ruby_meaning.specs.Grammar.Table.{table}
-use Rattle.ruby_parser.specs.Ahead.{see}
+use Rattle.ruby_reading.specs.Ahead.{see}
 use Rattle.ruby_parser.specs.Endings.{spelled}
 use Rattle.ruby_parser.specs.Refusing.{TellsIf}
 use Rattle.ruby_parser.proofs.Wholes.{end_told, within_told}

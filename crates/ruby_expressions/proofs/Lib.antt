@@ -1,0 +1,9 @@
+pub mod ArgumentsRead
+pub mod ArgumentLevels
+pub mod StepsOn
+pub mod ArgumentSteps
+pub mod CommandBegins
+pub mod TargetLevels
+pub mod TargetNodes
+pub mod TargetTurns
+pub mod UpdateSigns

@@ -1,0 +1,2 @@
+pub mod DefinitionLevels
+pub mod DefinitionLists

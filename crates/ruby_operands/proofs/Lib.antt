@@ -1,0 +1,2 @@
+pub mod CallLevels
+pub mod PartTurns

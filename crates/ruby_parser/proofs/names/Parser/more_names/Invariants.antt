@@ -1,7 +1,0 @@
-use Rattle.std.proofs.Common.{◌≡◌, ◌-◌, length}
-use Rattle.ruby_parser.specs.Ahead.{ahead}
-use Rattle.ruby_parser.specs.Parameters.{names_from, shown_names}
-use Rattle.ruby_parser.proofs.names.Parser.more_names.Given as goal
-
-abbrev pub invariant-loop-turn : goal.invariant-loop-turn
-invariant-loop-turn g l = names_from l.self.depth (length (ahead l.fn.cursor)) (shown_names l.fn.found) (ahead l.fn.cursor) ≡ names_from l.self.depth (l._turn-end - l._turn) (shown_names l.found) (ahead l.cursor)

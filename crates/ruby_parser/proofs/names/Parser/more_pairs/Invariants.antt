@@ -1,9 +1,0 @@
-use Rattle.std.proofs.Common.{◌≡◌, ◌-◌, length}
-use Rattle.ruby_parser.specs.Ahead.{ahead}
-use Rattle.ruby_parser.specs.Literals.{pairs_from}
-use Rattle.ruby_parser.proofs.names.Parser.more_pairs.Given as goal
-
-abbrev pub invariant-loop-turn : goal.invariant-loop-turn
-invariant-loop-turn g l =
-    pairs_from l.self.in_rescue l.self.depth (length (ahead l.fn.cursor)) l.fn.found.keys l.fn.found.values (ahead l.fn.cursor)
-    ≡ pairs_from l.self.in_rescue l.self.depth (l._turn-end - l._turn) l.keys l.values (ahead l.cursor)

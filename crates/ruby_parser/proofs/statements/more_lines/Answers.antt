@@ -1,0 +1,32 @@
+use Rattle.std.proofs.Common.{rules, arith}
+use Rattle.std.proofs.lemmas.Grind.{common_steps}
+use Rattle.grammar.proofs.Turns.{one_more, no_more}
+use Rattle.ruby_meaning.specs.Grammar.Table.{table}
+use Rattle.ruby_meaning.specs.Grammar.Statements as s
+use Rattle.ruby_reading.specs.Ahead.{ahead}
+use Rattle.ruby_parser.specs.StatementValues.{lines_from, read_lines_from}
+use Rattle.ruby_parser.proofs.statements.more_lines.Goals as goal
+
+pub returns-in_err-line : goal.returns-in_err-line
+unfolding read_lines_from table s.line
+returns-in_err-line g c =
+    let e = one_more (λ n. lines_from c.args.parser.now.in_rescue c.args.parser.now.depth n c.loop-turn.found (ahead c.loop-turn.cursor)) _ c.loop-turn._turn c.loop-turn-test.true c.loop-turn.invariant in
+    first_of (search rules, grind (arith, common_steps))
+
+pub returns-then-not-sees_one_of : goal.returns-then-not-sees_one_of
+unfolding read_lines_from table s.line
+returns-then-not-sees_one_of g c =
+    let e = one_more (λ n. lines_from c.args.parser.now.in_rescue c.args.parser.now.depth n c.loop-turn.found (ahead c.loop-turn.cursor)) _ c.loop-turn._turn c.loop-turn-test.true c.loop-turn.invariant in
+    first_of (search rules, grind (arith, common_steps))
+
+pub loop-turn-preserved : goal.loop-turn-preserved
+unfolding read_lines_from table s.line
+loop-turn-preserved g c =
+    let e = one_more (λ n. lines_from c.args.parser.now.in_rescue c.args.parser.now.depth n c.loop-turn.found (ahead c.loop-turn.cursor)) _ c.loop-turn._turn c.loop-turn-test.true c.loop-turn.invariant in
+    first_of (search rules, grind (arith, common_steps))
+
+pub returns : goal.returns
+unfolding read_lines_from table s.line
+returns g c =
+    let e = no_more (λ n. lines_from c.args.parser.now.in_rescue c.args.parser.now.depth n c.loop-turn.found (ahead c.loop-turn.cursor)) _ c.loop-turn._turn c.loop-turn-test.false c.loop-turn.invariant in
+    first_of (search rules, grind (arith, common_steps))

@@ -1,0 +1,3 @@
+pub mod LiteralLists
+pub mod JumpBegins
+pub mod BlockBegins

@@ -1,0 +1,4 @@
+pub mod Literals
+pub mod CallParts
+pub mod PassedArguments
+pub mod JumpValues

@@ -1,0 +1,4 @@
+pub mod Named
+pub mod Pairs
+pub mod Next
+pub mod SightsRead
