@@ -1,6 +1,7 @@
 use crate::bundle::{LoadFault, load};
-use opal_base::{MemFiles, Pos};
-use ruby_meaning::{Construct, Kind};
+use opal_base::{MemFiles, Names, Pos, units_to_utf8};
+use ruby_meaning::{Construct, Kind, Resolved};
+use std::alloc::Global;
 use std::test::Fail;
 
 fn refused(line: u32, col: u32, construct: Construct) -> LoadFault {
@@ -34,12 +35,8 @@ fn files_are_refused_at_the_first_place(rt: HostRuntime) -> Result<(), Fail> {
     ];
     for (file, fault) in cases {
         let mut files = MemFiles::new(alloc, Vec::new(alloc));
-        if files
-            .insert("main.rb".to_string(alloc)?, file.to_vec(alloc)?)
-            .is_err()
-        {
-            return Ok(());
-        }
+        let inserted = files.insert("main.rb".to_string(alloc)?, file.to_vec(alloc)?);
+        assert!(rt; inserted.is_ok());
         assert_eq!(rt; load(alloc, &mut files, "main.rb").err(), Some(fault));
     }
     Ok(())
@@ -61,5 +58,47 @@ fn a_file_is_loaded_with_its_program(rt: HostRuntime) -> Result<(), Fail> {
         Err(_) => 0,
     };
     assert_eq!(rt; statements, 2);
+    Ok(())
+}
+
+fn push_names(alloc: Global, line: &mut Vec<u8>, before: &[u8], names: &Names) -> Result<(), Fail> {
+    line.extend_from_slice(before)?;
+    for i in 0..names.len() {
+        line.extend_from_slice(b" ")?;
+        line.extend_from_slice(units_to_utf8(alloc, names.at(i))?.as_slice())?;
+    }
+    Ok(())
+}
+
+// The names of each scope, its own and those of outer ones, and the names that calls look up.
+fn shown(alloc: Global, resolved: &Resolved) -> Result<Vec<u8>, Fail> {
+    let mut line = Vec::new(alloc);
+    for scope in resolved.scopes.as_slice() {
+        push_names(alloc, &mut line, b"own", &scope.own)?;
+        push_names(alloc, &mut line, b" outer", &scope.outer)?;
+    }
+    push_names(alloc, &mut line, b" calls", &resolved.calls)?;
+    Ok(line)
+}
+
+// What is shown of the program of a file.
+fn loaded(alloc: Global, file: &[u8]) -> Result<Vec<u8>, Fail> {
+    let mut files = MemFiles::new(alloc, Vec::new(alloc));
+    files.insert("main.rb".to_string(alloc)?, file.to_vec(alloc)?)?;
+    let bundle = load(alloc, &mut files, "main.rb")?;
+    shown(alloc, &bundle.main)
+}
+
+// A name that several calls look up is listed once.
+#[test]
+fn a_file_has_one_scope(rt: HostRuntime) -> Result<(), Fail> {
+    let alloc = rt.alloc();
+    let cases: [(&[u8], &[u8]); 2] = [
+        (b"", b"own outer calls"),
+        (b"puts 'a'; (puts 'b'; puts 'c')", b"own outer calls puts"),
+    ];
+    for (file, line) in cases {
+        assert_eq!(rt; loaded(alloc, file)?.as_slice(), line);
+    }
     Ok(())
 }

@@ -1,12 +1,8 @@
 -- The forms with several parts, which the walk takes apart each in a function of its own.
 use Rattle.std.specs.Prelude.{Bool, true, false}
-use Rattle.ruby_meaning.specs.declared.tree.Base.TheOpen.{Base-F, Kind-F, ModuleForm-F, Node-F, Params-F}
-use Rattle.ruby_meaning.specs.declared.tree.Base.TheFolds.{fold-Kind}
+use Rattle.ruby_locals.specs.Leaf.{by_form}
+use Rattle.ruby_meaning.specs.declared.tree.Base.TheOpen.{Kind-F}
 use Rattle.ruby_meaning.specs.declared.tree.Kind.{Kind}
-
--- a test of the form alone
-abbrev pub by_form : (Kind-F Bool Bool Bool Bool Bool → Bool) → Kind → Bool
-by_form test = fold-Kind Bool Bool Bool Bool Bool (λ b. false) test (λ m. false) (λ n. false) (λ p. false)
 
 abbrev pub if_form : Kind-F Bool Bool Bool Bool Bool → Bool
 if_form (Kind-F.If a b c) = true

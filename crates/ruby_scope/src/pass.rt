@@ -4,10 +4,10 @@ ghost use Rattle.std.specs.Prelude.{◌≡◌, [], ◌∷◌, ◌++◌, IfOk, If
 ghost use Rattle.ruby_meaning.specs.Scoping.Scopes.{refusal_of, scopes_of, Scoped};
 ghost use Rattle.ruby_scope.specs.Answer.{Stops};
 
-use crate::around::no_targets;
-use crate::locals::seen::start;
 use crate::walk::walk_node;
 use opal_base::NoMemory;
+use ruby_locals::around::no_targets;
+use ruby_locals::seen::start;
 use ruby_meaning::{Construct, Program, Refusal, Resolved, Scope, Scopes, Seen, Stop};
 use sqlite_items::Items;
 use std::alloc::Global;

@@ -1,27 +1,26 @@
 //! The walk over a tree in the order of the text. It gives the tree again, with the names of
 //! locals and the calls of `require` told apart from other calls.
 
-mod copy;
-
 ghost use Rattle.std.specs.Prelude.{◌≡◌, map, OnOk, IfOk, None, true};
 ghost use Rattle.std.specs.Option.{option_map};
 ghost use Rattle.ruby_meaning.specs.Scoping.Walk as spec;
 ghost use Rattle.ruby_scope.specs.Group.{is_if, is_loop, is_case, is_begin, is_rescue, is_attr, is_call, is_super, is_block, is_def, is_module, is_pairs};
 
-use crate::around::{
-    as_role, condition_or_plain, has_target, is_condition, is_target, no_targets, plain,
-    target_or_plain, within_block, within_def, within_lambda, within_loop, within_rescue,
-};
-use crate::calls::call::{names_local, note, operator_called, resolved_call, setter};
-use crate::calls::shape::{is_built, is_here, role_of_args};
-use crate::calls::word::names_thread;
-use crate::locals::parameters::{block_name, names_from, rest_name, slots};
-use crate::locals::scope::{close_block, close_body, open_block, open_body};
-use crate::locals::seen::{
-    called, name_local, name_rescued, parameter, refuse_if, stands_before, unbuilt_at,
-};
-use copy::{boxed, copy_name, copy_names, copy_rest, copy_slots, node_like, push};
 use opal_base::{Names, NoMemory, Pos, Units};
+use ruby_locals::around::{
+    as_role, condition_or_plain, has_target, is_condition, no_targets, plain, target_or_plain,
+    within_block, within_def, within_lambda, within_loop, within_rescue,
+};
+use ruby_locals::call::{names_local, note, resolved_call};
+use ruby_locals::copy::{boxed, copy_name, copy_names, copy_rest, copy_slots, node_like, push};
+use ruby_locals::form::{note_constant, note_operator_set, note_set};
+use ruby_locals::leaf::walk_leaf;
+use ruby_locals::parameters::{block_name, names_from, rest_name, slots};
+use ruby_locals::scope::{close_block, close_body, open_block, open_body};
+use ruby_locals::seen::{
+    name_local, name_rescued, parameter, refuse_if, stands_before, unbuilt_at,
+};
+use ruby_locals::shape::{is_built, role_of_args};
 use ruby_meaning::{Around, Base, Construct, Kind, ModuleForm, Node, Params, Role, Seen};
 use sqlite_items::{Boxed, Items};
 use std::alloc::Global;
@@ -47,7 +46,7 @@ pub fn walk_node(
 
 // A form, at its mark.
 #[cycle(walk)]
-#[tactic(auto, unfolding(ruby_meaning::specs::Scoping::Walk::part, ruby_meaning::specs::Scoping::Walk::form_part, ruby_meaning::specs::Scoping::Walk::base_part, ruby_meaning::specs::Scoping::Walk::module_part, ruby_meaning::specs::Scoping::Walk::params_part, crate::specs::Group::is_if, crate::specs::Group::is_loop, crate::specs::Group::is_case, crate::specs::Group::is_begin, crate::specs::Group::is_rescue, crate::specs::Group::is_attr, crate::specs::Group::is_call, crate::specs::Group::is_super, crate::specs::Group::is_block, crate::specs::Group::is_def, crate::specs::Group::is_module, crate::specs::Group::is_pairs))]
+#[tactic(auto, unfolding(ruby_meaning::specs::Scoping::Walk::part, ruby_meaning::specs::Scoping::Walk::form_part, ruby_meaning::specs::Scoping::Walk::base_part, ruby_meaning::specs::Scoping::Walk::module_part, ruby_meaning::specs::Scoping::Walk::params_part, ruby_locals::specs::Leaf::is_leaf, crate::specs::Group::is_if, crate::specs::Group::is_loop, crate::specs::Group::is_case, crate::specs::Group::is_begin, crate::specs::Group::is_rescue, crate::specs::Group::is_attr, crate::specs::Group::is_call, crate::specs::Group::is_super, crate::specs::Group::is_block, crate::specs::Group::is_def, crate::specs::Group::is_module, crate::specs::Group::is_pairs))]
 fn walk_form(
     alloc: Global,
     seen: &mut Seen,
@@ -60,10 +59,18 @@ fn walk_form(
 {
     let inner = plain(around);
     match kind {
-        Kind::Lit(which) => Ok(Kind::Lit(*which)),
-        Kind::SelfRef => Ok(Kind::SelfRef),
-        Kind::Int(value) => Ok(Kind::Int(*value)),
-        Kind::Str(text) => Ok(Kind::Str(text.try_clone()?)),
+        Kind::Lit(_)
+        | Kind::SelfRef
+        | Kind::Int(_)
+        | Kind::Str(_)
+        | Kind::LocalGet(_)
+        | Kind::IvarGet(_)
+        | Kind::GlobalGet(_)
+        | Kind::Retry
+        | Kind::Reraise
+        | Kind::Alias { .. }
+        | Kind::Undef(_)
+        | Kind::Require { .. } => walk_leaf(alloc, seen, around, mark, kind),
         Kind::Interp(parts) => Ok(Kind::Interp(walk_all(alloc, seen, inner, parts)?)),
         Kind::ArrayLit(items) => Ok(Kind::ArrayLit(walk_all(alloc, seen, inner, items)?)),
         Kind::HashLit { .. } => walk_pairs(alloc, seen, around, mark, kind),
@@ -81,12 +88,6 @@ fn walk_form(
                 without_end: *without_end,
             })
         }
-        Kind::LocalGet(name) => {
-            name_local(seen, name)?;
-            Ok(Kind::LocalGet(name.try_clone()?))
-        }
-        Kind::IvarGet(name) => Ok(Kind::IvarGet(name.try_clone()?)),
-        Kind::GlobalGet(name) => Ok(Kind::GlobalGet(name.try_clone()?)),
         Kind::ConstGet { base, name } => walk_const(alloc, seen, around, mark, base, name),
         Kind::LocalSet(name, value) => {
             name_local(seen, name)?;
@@ -150,11 +151,6 @@ fn walk_form(
         }
         Kind::Begin { .. } => walk_begin(alloc, seen, around, mark, kind),
         Kind::Rescue { .. } => walk_rescue(alloc, seen, around, mark, kind),
-        Kind::Retry => {
-            refuse_if(seen, !around.retries, mark, Construct::JumpOutside);
-            Ok(Kind::Retry)
-        }
-        Kind::Reraise => Ok(Kind::Reraise),
         Kind::Jump(which, value) => {
             let lost = !has_target(*which, around);
             refuse_if(seen, lost, mark, Construct::JumpOutside);
@@ -163,16 +159,7 @@ fn walk_form(
         }
         Kind::Def { .. } => walk_def(alloc, seen, around, mark, kind),
         Kind::ModuleDef { .. } => walk_module(alloc, seen, around, mark, kind),
-        Kind::Alias { new, old } => Ok(Kind::Alias {
-            new: new.try_clone()?,
-            old: old.try_clone()?,
-        }),
-        Kind::Undef(names) => Ok(Kind::Undef(copy_names(alloc, names)?)),
         Kind::Seq(items) => Ok(Kind::Seq(walk_all(alloc, seen, inner, items)?)),
-        Kind::Require { name, relative } => Ok(Kind::Require {
-            name: name.try_clone()?,
-            relative: *relative,
-        }),
         Kind::Prim { name, args } => {
             let args = walk_all(alloc, seen, inner, args)?;
             Ok(Kind::Prim {
@@ -508,7 +495,7 @@ fn walk_attr(
             args,
             value,
         } => {
-            called(seen, &setter(name)?)?;
+            note_set(seen, name)?;
             let receiver = walk_boxed(alloc, seen, inner, receiver)?;
             let args = walk_all(alloc, seen, inner, args)?;
             let value = walk_boxed(alloc, seen, inner, value)?;
@@ -526,9 +513,7 @@ fn walk_attr(
             op,
             value,
         } => {
-            called(seen, name)?;
-            called(seen, &setter(name)?)?;
-            operator_called(alloc, seen, *op)?;
+            note_operator_set(alloc, seen, name, *op)?;
             let receiver = walk_boxed(alloc, seen, inner, receiver)?;
             let args = walk_all(alloc, seen, inner, args)?;
             let value = walk_boxed(alloc, seen, inner, value)?;
@@ -804,10 +789,7 @@ fn walk_const(
     ensures seen { OnOk result (seen.new ≡ (spec.constant (spec.base_part None base.now) name.now mark around seen.old).seen) }
     ensures made { IfOk result (λ made. made ≡ (spec.constant (spec.base_part None base.now) name.now mark around seen.old).made) }
 {
-    let threaded = is_here(base) && names_thread(name.as_slice());
-    let assigned = is_target(around.role) && around.in_def;
-    refuse_if(seen, threaded, mark, Construct::ThreadOrFiber);
-    refuse_if(seen, assigned, mark, Construct::DynamicConstant);
+    note_constant(seen, around, mark, base, name);
     let base = walk_base(alloc, seen, plain(around), base)?;
     Ok(Kind::ConstGet {
         base,

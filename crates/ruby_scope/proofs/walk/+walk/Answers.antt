@@ -1,4 +1,4 @@
-use Rattle.std.proofs.Common.{◌≡◌, ◌≤◌, ◌∷◌, ◌+◌, length, drop, sym, ap, ◌∙◌, arith, None}
+use Rattle.std.proofs.Common.{◌≤◌, ◌∷◌, ◌+◌, length, drop, sym, ap, ◌∙◌, arith, None}
 use Rattle.ruby_meaning.specs.Scoping.Walk.{part}
 use Rattle.ruby_meaning.proofs.Scoping.Lists.{drop_at}
 use Rattle.ruby_scope.proofs.Defaults.{at_step, past_end, named_seen, named_made, unnamed_seen, unnamed_made}

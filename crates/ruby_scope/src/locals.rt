@@ -1,5 +1,0 @@
-//! Locals and scopes.
-
-pub mod parameters;
-pub mod scope;
-pub mod seen;
