@@ -16,8 +16,8 @@ use Rattle.es5_tree.specs.Grammar.Expressions.{item_list, more_items}
 use Rattle.es5_tree.specs.Grammar.Terminals.{op, token_code}
 use Rattle.es5_tree.specs.Grammar.Table.{table, begins_expression}
 use Rattle.es5_tree.proofs.Grammar.TableMeets.{predictive}
-use Rattle.es5_parser.specs.Loops.{Outcome, items_from}
-use Rattle.es5_parser.proofs.Stopping.{keep}
+use Rattle.es5_reading.specs.Loops.{Outcome, items_from}
+use Rattle.es5_reading.proofs.Stopping.{keep}
 
 -- no nodes are within any levels
 none_within : (b : ℕ) → nat_le 0 b ≡ true

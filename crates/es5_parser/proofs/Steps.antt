@@ -14,7 +14,7 @@ use Rattle.es5_tree.specs.Lexed.{StopsAt}
 use Rattle.es5_tree.specs.Spells.{token_kind, IsEnded, write_kinds, body_kinds, body_of, Spells, NoFrontPos}
 use Rattle.es5_tree.specs.Reading.{kind_is, is_directive, State, Directive, Break, Ready, Member, Name, Open, Text, Close, Last, Over, goes, text_goes, step, Stops}
 use Rattle.es5_tree.proofs.Fronts.{kind_is_same, stops_next, stops_here, stops_no_front, directive_is}
-use Rattle.es5_parser.specs.Ahead.{Passed, Refused, StopsFrom, Statement, is_end, is_string}
+use Rattle.es5_reading.specs.Ahead.{Passed, Refused, StopsFrom, Statement, is_end, is_string}
 
 abbrev pub StopFrom : State → List EsToken → EsStop → Type 0
 StopFrom s old = StopsAt (StopsFrom s old)

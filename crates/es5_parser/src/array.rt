@@ -5,14 +5,15 @@ ghost use Rattle.grammar.specs.Readers.{read_named, read_rule};
 ghost use Rattle.es5_tree.specs.Grammar.Expressions as g;
 ghost use Rattle.es5_tree.specs.Grammar.Nodes.{expression};
 ghost use Rattle.es5_tree.specs.Grammar.Table.{table};
-ghost use Rattle.es5_parser.specs.Gives.{ahead};
-ghost use Rattle.es5_parser.specs.Loops.{items_from};
-ghost use Rattle.es5_parser.specs.Named.{Nests, GivesExprs, GivesOperand};
+ghost use Rattle.es5_reading.specs.Gives.{ahead};
+ghost use Rattle.es5_reading.specs.Loops.{items_from};
+ghost use Rattle.es5_reading.specs.Named.{Nests, GivesExprs, GivesOperand};
 
-use crate::making::expr;
-use crate::names::{Operand, Parser, Part, Reading};
-use crate::tokens::Tokens;
+use crate::names::Parser;
 use descent::Fail;
+use es5_reading::making::expr;
+use es5_reading::parts::{Operand, Part, Reading};
+use es5_reading::tokens::Tokens;
 use es5_tree::{EsExpr, EsKind, EsMark, Level, Terminal};
 use sqlite_items::Items;
 use std::alloc::Global;
@@ -46,7 +47,7 @@ impl<F: Fn(Global, &mut Tokens<'_>, Part, u32) -> Result<Reading, Fail>> Parser<
     }
 
     /// `[` items `]`
-    #[tactic(auto, using(crate::proofs::Shown::exprs_back), unfolding(es5_tree::specs::Grammar::Table::table, es5_tree::specs::Grammar::Expressions::array))]
+    #[tactic(auto, using(es5_reading::proofs::Shown::exprs_back), unfolding(es5_tree::specs::Grammar::Table::table, es5_tree::specs::Grammar::Expressions::array))]
     pub fn array<'a>(&self, tokens: &mut Tokens<'a>) -> Result<Operand<'a>, Fail>
         requires below { Nests self.now.depth (F.pre self.now.part) (F.post self.now.part) }
         ensures { GivesOperand (read_rule table (read_named table) g.array (suc self.now.depth) (ahead tokens.old)) result (ahead tokens.new) }

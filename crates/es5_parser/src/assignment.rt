@@ -4,14 +4,15 @@ ghost use Rattle.std.specs.Prelude.{◌≡◌, ◌<◌, ◌^◌};
 ghost use Rattle.grammar.specs.Readers.{read_named, read_rule};
 ghost use Rattle.es5_tree.specs.Grammar.Expressions as g;
 ghost use Rattle.es5_tree.specs.Grammar.Table.{table};
-ghost use Rattle.es5_parser.specs.Gives.{ahead};
-ghost use Rattle.es5_parser.specs.Loops.{conditional_behind, assigned_behind};
-ghost use Rattle.es5_parser.specs.Named.{Nests, GivesChoices, GivesExpr, GivesOperand, shown_operand};
+ghost use Rattle.es5_reading.specs.Gives.{ahead};
+ghost use Rattle.es5_reading.specs.Loops.{conditional_behind, assigned_behind};
+ghost use Rattle.es5_reading.specs.Named.{Nests, GivesChoices, GivesExpr, GivesOperand, shown_operand};
 
-use crate::making::{assigned, conditional, fits, is_target};
-use crate::names::{Choices, Operand, Parser, Part, Reading};
-use crate::tokens::Tokens;
+use crate::names::Parser;
 use descent::Fail;
+use es5_reading::making::{assigned, conditional, fits, is_target};
+use es5_reading::parts::{Choices, Operand, Part, Reading};
+use es5_reading::tokens::Tokens;
 use es5_tree::{EsExpr, EsMark, Level, Terminal};
 use std::alloc::Global;
 

@@ -8,14 +8,15 @@ ghost use Rattle.es5_tree.specs.Grammar.Expressions as e;
 ghost use Rattle.es5_tree.specs.Grammar.Nodes.{statement};
 ghost use Rattle.es5_tree.specs.Grammar.Statements as g;
 ghost use Rattle.es5_tree.specs.Grammar.Table.{table};
-ghost use Rattle.es5_parser.specs.Gives.{ahead};
-ghost use Rattle.es5_parser.specs.Loops.{one_statement, more_statements};
-ghost use Rattle.es5_parser.specs.Named.{Nests, GivesCaught, GivesHandlers, GivesStmt, GivesStmtAlone, GivesStmts};
+ghost use Rattle.es5_reading.specs.Gives.{ahead};
+ghost use Rattle.es5_reading.specs.Loops.{one_statement, more_statements};
+ghost use Rattle.es5_reading.specs.Named.{Nests, GivesCaught, GivesHandlers, GivesStmt, GivesStmtAlone, GivesStmts};
 
-use crate::making::tried;
-use crate::names::{Caught, Handlers, Parser, Part, Reading, Statement};
-use crate::tokens::Tokens;
+use crate::names::Parser;
 use descent::Fail;
+use es5_reading::making::tried;
+use es5_reading::parts::{Caught, Handlers, Part, Reading, Statement};
+use es5_reading::tokens::Tokens;
 use es5_tree::{EsMark, EsStmt, EsStmts, Keyword, Terminal};
 use std::alloc::Global;
 
@@ -63,7 +64,7 @@ impl<F: Fn(Global, &mut Tokens<'_>, Part, u32) -> Result<Reading, Fail>> Parser<
     }
 
     /// Any number of statements.
-    #[tactic(auto, using(crate::proofs::Stopping::many_is), unfolding(es5_tree::specs::Grammar::Table::table, es5_tree::specs::Grammar::Expressions::statement_list))]
+    #[tactic(auto, using(es5_reading::proofs::Stopping::many_is), unfolding(es5_tree::specs::Grammar::Table::table, es5_tree::specs::Grammar::Expressions::statement_list))]
     pub fn statement_list(
         &self,
         tokens: &mut Tokens<'_>,
@@ -93,7 +94,7 @@ impl<F: Fn(Global, &mut Tokens<'_>, Part, u32) -> Result<Reading, Fail>> Parser<
         Ok(body)
     }
 
-    #[tactic(auto, using(crate::proofs::Shown::stmts_back), unfolding(es5_tree::specs::Grammar::Table::table, es5_tree::specs::Grammar::Statements::block_statement))]
+    #[tactic(auto, using(es5_reading::proofs::Shown::stmts_back), unfolding(es5_tree::specs::Grammar::Table::table, es5_tree::specs::Grammar::Statements::block_statement))]
     pub fn block_statement(
         &self,
         tokens: &mut Tokens<'_>,

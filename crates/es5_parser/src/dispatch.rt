@@ -2,16 +2,18 @@
 
 ghost use Rattle.std.specs.Prelude.{◌≡◌, ◌<◌, ◌^◌, suc};
 ghost use Rattle.grammar.specs.Readers.{read_named, read_rule};
+ghost use Rattle.es5_tree.specs.Grammar.Names as name;
 ghost use Rattle.es5_tree.specs.Grammar.Statements as g;
 ghost use Rattle.es5_tree.specs.Grammar.Table.{table};
-ghost use Rattle.es5_parser.specs.Gives.{ahead};
-ghost use Rattle.es5_parser.specs.Loops.{plain_statement, statement_or_jump};
-ghost use Rattle.es5_parser.specs.Named.{Nests, GivesBranch, GivesStmt, GivesStmts};
+ghost use Rattle.es5_reading.specs.Gives.{ahead};
+ghost use Rattle.es5_reading.specs.Loops.{plain_statement, statement_or_jump};
+ghost use Rattle.es5_reading.specs.Named.{Nests, GivesBranch, GivesPart, GivesStmt, GivesStmts};
 
-use crate::making::{branch_fits, long_if, short_if};
-use crate::names::{Branch, Parser, Part, Reading, Statement};
-use crate::tokens::Tokens;
+use crate::names::Parser;
 use descent::Fail;
+use es5_reading::making::{branch_fits, long_if, short_if};
+use es5_reading::parts::{Branch, Part, Reading, Statement};
+use es5_reading::tokens::Tokens;
 use es5_tree::{EsMark, EsStmts, Keyword, Terminal};
 use std::alloc::Global;
 
@@ -127,6 +129,21 @@ impl<F: Fn(Global, &mut Tokens<'_>, Part, u32) -> Result<Reading, Fail>> Parser<
         }
     }
 
+    // A statement, at the level of its node.
+    #[tactic(auto, using(crate::proofs::Wholes::statement_is))]
+    fn statement_here(
+        &self,
+        tokens: &mut Tokens<'_>,
+        in_function: bool,
+        in_loop: bool,
+    ) -> Result<Statement, Fail>
+        requires below { Nests self.now.depth (F.pre self.now.part) (F.post self.now.part) }
+        requires levels { self.now.depth < 2 ^ 31 }
+        ensures { GivesStmt (read_named table (suc self.now.depth) (name.statement in_function in_loop) (ahead tokens.old)) result (ahead tokens.new) }
+    {
+        self.any_statement(tokens, in_function, in_loop)
+    }
+
     /// The directive and the statements behind it.
     #[tactic(auto, unfolding(es5_tree::specs::Grammar::Table::table, es5_tree::specs::Grammar::Statements::whole_script))]
     pub fn whole_script(&self, tokens: &mut Tokens<'_>) -> Result<EsStmts, Fail>
@@ -136,5 +153,23 @@ impl<F: Fn(Global, &mut Tokens<'_>, Part, u32) -> Result<Reading, Fail>> Parser<
         tokens.take_directive()?;
         tokens.take(Terminal::Mark(EsMark::Semicolon))?;
         self.statement_list(tokens, false, false)
+    }
+
+    /// A part, at the level of a node that is made here.
+    pub fn part_here(&self, tokens: &mut Tokens<'_>, part: Part) -> Result<Reading, Fail>
+        requires below { Nests self.now.depth (F.pre self.now.part) (F.post self.now.part) }
+        requires levels { self.now.depth < 2 ^ 31 }
+        ensures { GivesPart part (suc self.now.depth) (ahead tokens.old) result (ahead tokens.new) }
+    {
+        match part {
+            Part::Expr(level) => {
+                let expr = self.expression(tokens, level)?;
+                Ok(Reading::Expr(expr))
+            }
+            Part::Stmt(in_function, in_loop) => {
+                let stmt = self.statement_here(tokens, in_function, in_loop)?;
+                Ok(Reading::Stmt(stmt))
+            }
+        }
     }
 }

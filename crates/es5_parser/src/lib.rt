@@ -1,21 +1,29 @@
-//! Scripts from their tokens (ECMA-262 5.1, sections 11 to 14, as far as the profile goes by now).
+//! Scripts from their tokens (ECMA-262 5.1, sections 11 to 14): today's scripts, and those of the whole
+//! language.
 #![tactic(auto)]
 
 mod access;
 mod array;
 mod assignment;
 mod blocks;
-mod cursor;
+mod brackets;
 mod dispatch;
-mod making;
+mod function;
+mod levels;
 mod names;
+mod object;
 mod operators;
 mod parse;
 mod primary;
+mod read;
+mod script;
+#[cfg(test)]
+mod shapes;
 mod statements;
-mod terminal;
 #[cfg(test)]
 mod tests;
-mod tokens;
+#[cfg(test)]
+mod whole_tests;
 
 pub use parse::{es_parse, read_script};
+pub use script::{parse_script, read_whole_script};

@@ -6,32 +6,17 @@ ghost use Rattle.grammar.specs.FormReaders.{next_in};
 ghost use Rattle.grammar.specs.Readers.{read_named, read_rule};
 ghost use Rattle.es5_tree.specs.Grammar.Expressions as g;
 ghost use Rattle.es5_tree.specs.Grammar.Table.{table};
-ghost use Rattle.es5_parser.specs.Gives.{ahead};
-ghost use Rattle.es5_parser.specs.Loops.{binary_part, binaries, logical_part, logicals};
-ghost use Rattle.es5_parser.specs.Named.{Nests, GivesExpr, GivesOperand, shown_operand};
+ghost use Rattle.es5_reading.specs.Gives.{ahead};
+ghost use Rattle.es5_reading.specs.Loops.{binary_part, binaries, logical_part, logicals};
+ghost use Rattle.es5_reading.specs.Named.{Nests, GivesExpr, GivesOperand, shown_operand};
 
-use crate::making::{binary, fits, joined};
-use crate::names::{Operand, Parser, Part, Reading};
-use crate::tokens::Tokens;
+use crate::names::Parser;
 use descent::Fail;
+use es5_reading::making::{binary, fits, joined};
+use es5_reading::parts::{Binary, Logical, Operand, Part, Reading};
+use es5_reading::tokens::Tokens;
 use es5_tree::{EsExpr, EsMark, Level, Terminal};
 use std::alloc::Global;
-
-/// The levels of operators that always take both values.
-#[derive(Clone, Copy, Debug, PartialEq, Eq)]
-pub enum Binary {
-    Product,
-    Sum,
-    Relation,
-    Equality,
-}
-
-/// The operators that may take the first value alone.
-#[derive(Clone, Copy, Debug, PartialEq, Eq)]
-pub enum Logical {
-    And,
-    Or,
-}
 
 #[tactic(auto, unfolding(es5_tree::specs::Grammar::Table::table, es5_tree::specs::Grammar::Expressions::product_part, es5_tree::specs::Grammar::Expressions::sum_part, es5_tree::specs::Grammar::Expressions::relation_part, es5_tree::specs::Grammar::Expressions::equality_part))]
 fn sees_binary(tokens: &Tokens<'_>, which: Binary) -> bool

@@ -6,10 +6,10 @@ ghost use Rattle.es5_tree.specs.Lexed.{StopsAt};
 ghost use Rattle.es5_tree.specs.Tree.{expr_at, write_at};
 ghost use Rattle.es5_tree.specs.Spells.{IsEnded, IsNotScript, NoFrontPos, Reads, Spells};
 ghost use Rattle.es5_tree.specs.Reading as spec;
-ghost use Rattle.es5_parser.specs.Ahead.{Statement, StopsFrom, is_end};
+ghost use Rattle.es5_reading.specs.Ahead.{Statement, StopsFrom, is_end};
 
-use crate::cursor::Cursor;
 use es5_lexer::es_lex;
+use es5_reading::cursor::Cursor;
 use es5_tree::small::{EsExpr, EsKind, EsStmt, Script};
 use es5_tree::{EsMark, EsStop, EsTokens, word_units};
 use opal_base::{NoMemory, Pos, Units};

@@ -4,19 +4,20 @@ ghost use Rattle.std.specs.Prelude.{◌≡◌, suc};
 ghost use Rattle.grammar.specs.Readers.{read_named, read_rule};
 ghost use Rattle.es5_tree.specs.Grammar.Expressions as g;
 ghost use Rattle.es5_tree.specs.Grammar.Table.{table};
-ghost use Rattle.es5_parser.specs.Gives.{ahead};
-ghost use Rattle.es5_parser.specs.Named.{Nests, GivesOperand};
+ghost use Rattle.es5_reading.specs.Gives.{ahead};
+ghost use Rattle.es5_reading.specs.Named.{Nests, GivesOperand};
 
-use crate::making::{expr, is_member, negated, token_kind};
-use crate::names::{Operand, Parser, Part, Reading};
-use crate::tokens::Tokens;
+use crate::names::Parser;
 use descent::Fail;
+use es5_reading::making::{expr, is_member, negated, token_kind};
+use es5_reading::parts::{Operand, Part, Reading};
+use es5_reading::tokens::Tokens;
 use es5_tree::{EsKind, EsMark, Keyword, Level, Terminal};
 use std::alloc::Global;
 
 impl<F: Fn(Global, &mut Tokens<'_>, Part, u32) -> Result<Reading, Fail>> Parser<F> {
     #[tactic(auto, unfolding(es5_tree::specs::Grammar::Table::table, es5_tree::specs::Grammar::Expressions::simple))]
-    fn simple<'a>(&self, tokens: &mut Tokens<'a>) -> Result<Operand<'a>, Fail>
+    pub fn simple<'a>(&self, tokens: &mut Tokens<'a>) -> Result<Operand<'a>, Fail>
         ensures { GivesOperand (read_rule table (read_named table) g.simple (suc self.now.depth) (ahead tokens.old)) result (ahead tokens.new) }
     {
         let first = tokens.take_one_of(&[
@@ -37,7 +38,7 @@ impl<F: Fn(Global, &mut Tokens<'_>, Part, u32) -> Result<Reading, Fail>> Parser<
     }
 
     #[tactic(auto, unfolding(es5_tree::specs::Grammar::Table::table, es5_tree::specs::Grammar::Expressions::operation))]
-    fn operation<'a>(&self, tokens: &mut Tokens<'a>) -> Result<Operand<'a>, Fail>
+    pub fn operation<'a>(&self, tokens: &mut Tokens<'a>) -> Result<Operand<'a>, Fail>
         requires below { Nests self.now.depth (F.pre self.now.part) (F.post self.now.part) }
         ensures { GivesOperand (read_rule table (read_named table) g.operation (suc self.now.depth) (ahead tokens.old)) result (ahead tokens.new) }
     {
@@ -51,7 +52,7 @@ impl<F: Fn(Global, &mut Tokens<'_>, Part, u32) -> Result<Reading, Fail>> Parser<
     }
 
     #[tactic(auto, unfolding(es5_tree::specs::Grammar::Table::table, es5_tree::specs::Grammar::Expressions::deletion, es5_tree::specs::Grammar::Nodes::expr_of))]
-    fn deletion<'a>(&self, tokens: &mut Tokens<'a>) -> Result<Operand<'a>, Fail>
+    pub fn deletion<'a>(&self, tokens: &mut Tokens<'a>) -> Result<Operand<'a>, Fail>
         requires below { Nests self.now.depth (F.pre self.now.part) (F.post self.now.part) }
         ensures { GivesOperand (read_rule table (read_named table) g.deletion (suc self.now.depth) (ahead tokens.old)) result (ahead tokens.new) }
     {

@@ -6,10 +6,10 @@ use Rattle.grammar.proofs.Turns.{one_more}
 use Rattle.es5_tree.specs.Grammar.Expressions.{access_part}
 use Rattle.es5_tree.specs.Grammar.Nodes.{accessed}
 use Rattle.es5_tree.specs.Grammar.Table.{table}
-use Rattle.es5_parser.specs.Gives.{ahead}
-use Rattle.es5_parser.specs.Loops.{fits, accesses}
-use Rattle.es5_parser.specs.Named.{shown_operand}
-use Rattle.es5_parser.proofs.Stopping.{none_begins, none_fits}
+use Rattle.es5_reading.specs.Gives.{ahead}
+use Rattle.es5_reading.specs.Loops.{fits, accesses}
+use Rattle.es5_reading.specs.Named.{shown_operand}
+use Rattle.es5_reading.proofs.Stopping.{none_begins, none_fits}
 use Rattle.es5_parser.proofs.names.Parser.accesses.Goals.{then-not-sees_access-via-then-not-sees_access, then-not-sees_access-via-else-not-sees_access+then-not-fits}
 use Rattle.es5_parser.proofs.names.Parser.accesses.Goals as goal
 

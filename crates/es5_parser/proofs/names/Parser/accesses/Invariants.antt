@@ -1,7 +1,7 @@
 use Rattle.std.proofs.Common.{◌≡◌, ◌-◌, length}
-use Rattle.es5_parser.specs.Gives.{ahead}
-use Rattle.es5_parser.specs.Loops.{accesses}
-use Rattle.es5_parser.specs.Named.{shown_operand}
+use Rattle.es5_reading.specs.Gives.{ahead}
+use Rattle.es5_reading.specs.Loops.{accesses}
+use Rattle.es5_reading.specs.Named.{shown_operand}
 use Rattle.es5_parser.proofs.names.Parser.accesses.Given as goal
 
 abbrev pub invariant-loop-turn : goal.invariant-loop-turn

@@ -5,10 +5,10 @@ use Rattle.grammar.specs.Readers.{read_named, read_rule}
 use Rattle.grammar.proofs.Turns.{one_more}
 use Rattle.es5_tree.specs.Grammar.Nodes.{binary}
 use Rattle.es5_tree.specs.Grammar.Table.{table}
-use Rattle.es5_parser.specs.Gives.{ahead}
-use Rattle.es5_parser.specs.Loops.{fits, binaries, binary_part}
-use Rattle.es5_parser.specs.Named.{shown_operand}
-use Rattle.es5_parser.proofs.Stopping.{none_begins, none_fits}
+use Rattle.es5_reading.specs.Gives.{ahead}
+use Rattle.es5_reading.specs.Loops.{fits, binaries, binary_part}
+use Rattle.es5_reading.specs.Named.{shown_operand}
+use Rattle.es5_reading.proofs.Stopping.{none_begins, none_fits}
 use Rattle.es5_parser.proofs.names.Parser.binaries.Goals.{then-not-sees_binary-via-then-not-sees_binary, then-not-sees_binary-via-else-not-sees_binary+then-not-fits}
 use Rattle.es5_parser.proofs.names.Parser.binaries.Goals as goal
 

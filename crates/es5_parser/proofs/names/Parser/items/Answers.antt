@@ -2,9 +2,9 @@ use Rattle.std.proofs.Common.{rules, arith, map}
 use Rattle.std.proofs.lemmas.Grind.{common_steps}
 use Rattle.grammar.proofs.Turns.{one_more, no_more}
 use Rattle.es5_tree.specs.Grammar.Nodes.{expression}
-use Rattle.es5_parser.specs.Gives.{ahead}
-use Rattle.es5_parser.specs.Loops.{items_from}
-use Rattle.es5_parser.proofs.Shown.{expr_more}
+use Rattle.es5_reading.specs.Gives.{ahead}
+use Rattle.es5_reading.specs.Loops.{items_from}
+use Rattle.es5_reading.proofs.Shown.{expr_more}
 use Rattle.es5_parser.proofs.names.Parser.items.Goals as goal
 
 pub returns-in_err-expr : goal.returns-in_err-expr

@@ -4,10 +4,10 @@ use Rattle.grammar.specs.Checks.{first}
 use Rattle.grammar.specs.Readers.{read_named, read_rule}
 use Rattle.grammar.proofs.Turns.{one_more}
 use Rattle.es5_tree.specs.Grammar.Table.{table}
-use Rattle.es5_parser.specs.Gives.{ahead}
-use Rattle.es5_parser.specs.Loops.{fits, logicals, logical_part, joined}
-use Rattle.es5_parser.specs.Named.{shown_operand}
-use Rattle.es5_parser.proofs.Stopping.{none_begins, none_fits}
+use Rattle.es5_reading.specs.Gives.{ahead}
+use Rattle.es5_reading.specs.Loops.{fits, logicals, logical_part, joined}
+use Rattle.es5_reading.specs.Named.{shown_operand}
+use Rattle.es5_reading.proofs.Stopping.{none_begins, none_fits}
 use Rattle.es5_parser.proofs.names.Parser.logicals.Goals.{then-not-sees_logical-via-then-not-sees_logical, then-not-sees_logical-via-else-not-sees_logical+then-not-fits}
 use Rattle.es5_parser.proofs.names.Parser.logicals.Goals as goal
 

@@ -3,9 +3,9 @@ use Rattle.std.proofs.lemmas.Grind.{common_steps}
 use Rattle.grammar.specs.FormReaders.{read_many_from}
 use Rattle.grammar.proofs.Turns.{one_more, no_more}
 use Rattle.es5_tree.specs.Grammar.Nodes.{expression}
-use Rattle.es5_parser.specs.Gives.{ahead}
-use Rattle.es5_parser.specs.Loops.{more_arguments}
-use Rattle.es5_parser.proofs.Shown.{expr_more}
+use Rattle.es5_reading.specs.Gives.{ahead}
+use Rattle.es5_reading.specs.Loops.{more_arguments}
+use Rattle.es5_reading.proofs.Shown.{expr_more}
 use Rattle.es5_parser.proofs.names.Parser.more_arguments.Goals as goal
 
 pub returns-in_err-next_argument : goal.returns-in_err-next_argument

@@ -3,9 +3,9 @@ use Rattle.std.proofs.lemmas.Grind.{common_steps}
 use Rattle.grammar.specs.FormReaders.{read_many_from}
 use Rattle.grammar.proofs.Turns.{one_more, no_more}
 use Rattle.es5_tree.specs.Grammar.Nodes.{statement}
-use Rattle.es5_parser.specs.Gives.{ahead}
-use Rattle.es5_parser.specs.Loops.{more_statements}
-use Rattle.es5_parser.proofs.Shown.{stmt_more}
+use Rattle.es5_reading.specs.Gives.{ahead}
+use Rattle.es5_reading.specs.Loops.{more_statements}
+use Rattle.es5_reading.proofs.Shown.{stmt_more}
 use Rattle.es5_parser.proofs.names.Parser.more_statements.Goals as goal
 
 pub returns-in_err-one_statement : goal.returns-in_err-one_statement

@@ -1,7 +1,7 @@
 use Rattle.std.proofs.Common.{◌≡◌, ◌-◌, length, map}
 use Rattle.es5_tree.specs.Grammar.Nodes.{statement}
-use Rattle.es5_parser.specs.Gives.{ahead}
-use Rattle.es5_parser.specs.Loops.{more_statements}
+use Rattle.es5_reading.specs.Gives.{ahead}
+use Rattle.es5_reading.specs.Loops.{more_statements}
 use Rattle.es5_parser.proofs.names.Parser.more_statements.Given as goal
 
 abbrev pub invariant-loop-turn : goal.invariant-loop-turn

@@ -1,0 +1,4 @@
+pub mod Ahead
+pub mod Gives
+pub mod Named
+pub mod Loops
