@@ -1,0 +1,4 @@
+pub mod Equations
+pub mod Finished
+pub mod Joined
+pub mod Written
