@@ -1,7 +1,7 @@
 -- Elements of arrays: lists of them, and objects into which they are put.
-use Rattle.std.proofs.Common.{◌≡◌, ℕ, zero, suc, ◌+◌, ◌<◌, ◌≤◌, List, [], ◌∷◌, ◌++◌, length, map, take, drop, set, get_or, slice_get, Option, Some, None, refl, sym, ap, subst, ◌∙◌, arith, drop-cons, drop_of_length-le, Bool, true, false, ◌↔◌, ⊎_elim}
+use Rattle.std.proofs.Common.{◌≡◌, ℕ, suc, ◌+◌, ◌<◌, ◌≤◌, List, [], ◌∷◌, ◌++◌, length, map, take, drop, set, get_or, slice_get, Option, Some, None, refl, sym, ap, subst, ◌∙◌, arith, drop-cons, drop_of_length-le, Bool, true, false, ◌↔◌, ⊎_elim}
 use Rattle.std.proofs.lemmas.Bool.{cases_lt, false≢true}
-use Rattle.std.specs.List.{All, range_with_len}
+use Rattle.std.specs.List.{All}
 use Rattle.std.proofs.Math.Seq.{set-append_seam, get_or-append_seam}
 use Rattle.std.proofs.lemmas.List.{get_or-set_same, set-set, map-append, take_more}
 use Rattle.std.proofs.lemmas.Option.{get_or_from_slice_get}
@@ -39,7 +39,7 @@ cell_is cells o c lt = get_or-set_same cells o c (new_cell Object None) lt
 one_more : (i : ℕ) → suc i ≡ i + 1
 one_more i = omega arith
 
-at_step : {A : Type 0} (xs : List A) (i : ℕ) (x : A) → i < length xs → x ≡ get_or xs i x → drop i xs ≡ x ∷ drop (i + 1) xs
+pub at_step : {A : Type 0} (xs : List A) (i : ℕ) (x : A) → i < length xs → x ≡ get_or xs i x → drop i xs ≡ x ∷ drop (i + 1) xs
 at_step xs i x h e = drop-cons xs i x h ∙ (ap (λ y. y ∷ drop (suc i) xs) (sym e) ∙ ap (λ n. x ∷ drop n xs) (one_more i))
 
 -- the object after one element
@@ -68,7 +68,7 @@ filled_whole h0 h o i items all inv e le =
     e ∙ ap (with_cell h0 o) (sym (no_more (cell_at h.cells o) i) ∙ (ap (λ xs. filled (cell_at h.cells o) i (map value_if xs)) (sym (drop_of_length-le items le)) ∙ inv))
 
 -- a new object into which elements are put
-seam : (cells : List Cell) (c d : Cell) → cell_at (cells ++ c ∷ []) (length cells) ≡ c
+pub seam : (cells : List Cell) (c d : Cell) → cell_at (cells ++ c ∷ []) (length cells) ≡ c
 unfolding cell_at
 seam cells c d = get_or-append_seam cells c [] (new_cell Object None)
 

@@ -6,3 +6,7 @@ pub mod Named
 pub mod Places
 pub mod Quiet
 pub mod RowsNamed
+pub mod Numbers
+pub mod Bound
+pub mod Making
+pub mod Standing

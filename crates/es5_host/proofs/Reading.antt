@@ -1,5 +1,5 @@
 -- Lines of a text.
-use Rattle.std.proofs.Common.{◌≡◌, ℕ, ◌+◌, ◌-◌, ◌≤◌, Bool, true, false, if◌then◌else◌, nat_eq, List, [], ◌∷◌, length, drop, arith, ap, length-drop}
+use Rattle.std.proofs.Common.{◌≡◌, ℕ, ◌+◌, ◌≤◌, Bool, true, false, if◌then◌else◌, nat_eq, List, [], ◌∷◌, length, drop, arith, length-drop}
 use Rattle.es5_tree.specs.Intrinsics.Lines.{line_of}
 
 cut : (b : Bool) (u : ℕ) (us vs : List ℕ) → length vs ≤ length us → length (if b then u ∷ [] else u ∷ vs) ≤ length (u ∷ us)

@@ -1,22 +1,22 @@
 -- The values of rows name objects that are there, and so do those of answers.
-use Rattle.std.proofs.Common.{◌≡◌, ℕ, ◌+◌, ◌-◌, ◌<◌, ◌≤◌, Bool, true, false, if◌then◌else◌, ◌&&◌, nat_le, nat_lt, List, [], ◌∷◌, ◌++◌, length, map, drop, Option, Some, None, is_some, refl, sym, subst, ap, ◌∙◌, arith, pos, length-append, length-set, codes}
+use Rattle.std.proofs.Common.{◌≡◌, ℕ, ◌+◌, ◌-◌, ◌<◌, Bool, true, false, if◌then◌else◌, ◌&&◌, nat_le, nat_lt, List, [], ◌∷◌, ◌++◌, length, map, drop, Option, Some, None, refl, sym, subst, ap, arith, pos, length-append, length-set}
 use Rattle.std.specs.Bool.{⊤}
 use Rattle.std.specs.Prelude.{slice_index, slice_range}
 use Rattle.std.specs.List.{All}
 use Rattle.std.proofs.lemmas.List.Elements.{All-nil, All-head, All-tail, All-map}
 use Rattle.es5_tree.specs.State.{Text, Val, Undefined, Null, Truth, Num, Str, Obj}
 use Rattle.es5_tree.specs.Objects.Names.{decimal, index_end}
-use Rattle.es5_tree.specs.Objects.Cells.{Cell, own, put, keys, new_cell, Object}
-use Rattle.es5_tree.specs.Objects.Links.{cell_at, link_at, in_chain, with_link, Within, LinksWithin}
+use Rattle.es5_tree.specs.Objects.Cells.{Cell, put}
+use Rattle.es5_tree.specs.Objects.Links.{cell_at, link_at, in_chain, Within, LinksWithin}
 use Rattle.es5_tree.specs.Intrinsics.Calls.{HostFn, Create, GetPrototypeOf, SetPrototypeOf, Keys, HasOwnProperty, Call, Apply, IsArray, Push, Slice, CharCodeAt, Substring, IndexOf, FromCharCode, Write, Line}
 use Rattle.es5_tree.specs.Intrinsics.Lines.{Reading, line_value, line_of, rest}
-use Rattle.es5_tree.specs.Intrinsics.Rows.{Row, Gives, Sets, Makes, Throws, Invokes, Leaves, Writes, Reads, covered, or_type_error, where_true, one_of, two_of, natural_of, text_of, object_of, link_of, link_value, linked, callee_of, is_passed_on, passed_on, or_undefined, elements, listed_length, array_at, array_of, first_place, place_value, row, get_prototype_of, set_prototype_of, apply_row, call_row, push, slice, index_of}
+use Rattle.es5_tree.specs.Intrinsics.Rows.{Row, Gives, Sets, Makes, Throws, Invokes, Leaves, Writes, Reads, covered, or_type_error, where_true, one_of, two_of, natural_of, text_of, object_of, link_of, link_value, linked, callee_of, is_passed_on, passed_on, or_undefined, elements, listed_length, array_at, array_of, first_place, place_value, row}
 use Rattle.es5_tree.specs.Intrinsics.Valid.{Names, NamesIf, Valid}
-use Rattle.es5_objects.specs.Heap.{Heap, with_cell}
+use Rattle.es5_objects.specs.Heap.{Heap}
 use Rattle.es5_objects.specs.Values.{value_of}
 use Rattle.es5_host.specs.declared.answer.HostAnswer.{HostAnswer}
 use Rattle.es5_host.specs.declared.answer.HostAnswer.TheVariants.{Value, Throw, Invoke, Outside, CellsFull, WriteFault, NoMemory}
-use Rattle.es5_host.specs.Answers.{Answered, Gave, NamesInAnswer, with_new}
+use Rattle.es5_host.specs.Answers.{Answered, Gave, NamesInAnswer}
 use Rattle.es5_host.proofs.Rows.{object_named}
 use Rattle.es5_host.proofs.Named.{elements_named}
 

@@ -1,13 +1,13 @@
 -- What a change leaves of a valid heap.
-use Rattle.std.proofs.Common.{◌≡◌, ◌≢◌, ℕ, ◌+◌, ◌<◌, ◌≤◌, ◌⊎◌, ⊎_elim, inl, inr, Bool, true, false, eqb, if◌then◌else◌, List, [], ◌∷◌, ◌++◌, length, set, get_or, Option, Some, None, refl, sym, ap, subst, ◌∙◌, arith, length-append, length-set, get_or-set_other, get_or-set_same, eqb-true, eq-eqb, bytes_eq, zero, suc, map, ◌&&◌, Result, Ok, Err, OnOk, OnErr}
+use Rattle.std.proofs.Common.{◌≡◌, ◌≢◌, ℕ, ◌+◌, ◌<◌, ◌≤◌, ◌⊎◌, ⊎_elim, inl, inr, Bool, true, false, not, eqb, if◌then◌else◌, List, [], ◌∷◌, ◌++◌, length, set, get_or, Option, Some, None, refl, sym, ap, subst, ◌∙◌, arith, length-append, length-set, get_or-set_other, get_or-set_same, eqb-true, eq-eqb, bytes_eq, zero, suc, map, ◌&&◌, Result, Ok, Err, OnOk, OnErr}
 use Rattle.std.specs.List.{All}
 use Rattle.std.proofs.lemmas.Bool.{false≢true}
 use Rattle.std.proofs.lemmas.List.{get_or_append_left, set-get_or}
 use Rattle.std.proofs.lemmas.List.Elements.{All-weaker, All-push, All-set, All-get_or, All-filter, All-nil, All-cons, All-head, All-tail}
 use Rattle.es5_tree.specs.State.{Text, Val, Undefined, Null, Truth, Num, Str, Obj}
-use Rattle.es5_tree.specs.Objects.Cells.{Cell, Kind, Object, new_cell, put, with_property, with_length, with_value, elements_below, stays_below, is_array, is_array_length, whole, CanPut}
+use Rattle.es5_tree.specs.Objects.Cells.{Cell, Object, new_cell, put, delete, without_property, with_property, with_length, with_value, elements_below, stays_below, is_array, is_array_length, whole, CanPut}
 use Rattle.es5_tree.specs.Objects.Names.{index_of, decimal, is_length, length_name}
-use Rattle.es5_tree.specs.Objects.Links.{cell_at, link_at, with_link, Within, LinksWithin}
+use Rattle.es5_tree.specs.Objects.Links.{cell_at, with_link, Within, LinksWithin}
 use Rattle.es5_tree.specs.Intrinsics.Valid.{Names, NamesIf, NamesIn, Valid}
 use Rattle.es5_tree.specs.Intrinsics.Rows.{with_element}
 use Rattle.es5_objects.specs.declared.value.EsValue.{EsValue}
@@ -16,8 +16,6 @@ use Rattle.es5_objects.specs.Heap.{Heap, with_cell}
 use Rattle.std.specs.Int.Digits.{digits_of, AllBelowBase}
 use Rattle.std.proofs.lemmas.Int.Digits.{all_below_base_digits_of}
 use Rattle.std.proofs.lemmas.Slice.Eq.{bytes_eq-Decides}
-use Rattle.es5_tree.specs.Intrinsics.Made.{count}
-use Rattle.es5_tree.specs.Intrinsics.Made as made
 use Rattle.es5_tree.proofs.ObjectLinks.{links_push, links_set}
 
 pub named_longer : (n m : ℕ) → n ≤ m → (v : Val) → Names n v → Names m v
@@ -38,16 +36,21 @@ before : (cells : List Cell) (c : Cell) (o : ℕ) → o < length cells → cell_
 unfolding cell_at
 before cells c o lt = get_or_append_left cells (c ∷ []) (new_cell Object None) o lt
 
--- one more object
-pub valid_push : (cells : List Cell) (c : Cell) → Within cells c.link → NamesIn (length cells) c → Valid cells → Valid (cells ++ c ∷ [])
-valid_push cells c w n v =
+-- one more object, whose values may name it too
+pub valid_push_new : (cells : List Cell) (c : Cell) → Within cells c.link → NamesIn (length cells + 1) c → Valid cells → Valid (cells ++ c ∷ [])
+valid_push_new cells c w n v =
     let le : length cells ≤ length (cells ++ c ∷ []) = omega (arith, length-append cells (c ∷ [])) in
+    let all : length cells + 1 ≤ length (cells ++ c ∷ []) = omega (arith, length-append cells (c ∷ [])) in
     record {
       enough = omega (arith, v.enough);
       intrinsic = λ o lt. ap (λ x. x.kind) (before cells c o (omega (arith, v.enough))) ∙ v.intrinsic o lt;
       links = links_push cells c w v.links;
-      values = All-push (NamesIn (length (cells ++ c ∷ []))) cells c (All-weaker (NamesIn (length cells)) (NamesIn (length (cells ++ c ∷ []))) (names_longer _ _ le) cells v.values) (names_longer _ _ le c n);
+      values = All-push (NamesIn (length (cells ++ c ∷ []))) cells c (All-weaker (NamesIn (length cells)) (NamesIn (length (cells ++ c ∷ []))) (names_longer _ _ le) cells v.values) (names_longer _ _ all c n);
     }
+
+-- one more object
+pub valid_push : (cells : List Cell) (c : Cell) → Within cells c.link → NamesIn (length cells) c → Valid cells → Valid (cells ++ c ∷ [])
+valid_push cells c w n v = valid_push_new cells c w (names_longer _ _ (omega arith) c n) v
 
 true_or_false : (a : Bool) → (a ≡ true) ⊎ (a ≡ false)
 true_or_false true = inl refl
@@ -107,7 +110,7 @@ choose : {A : Type 0} (b : Bool) (c d : Cell) (f : Cell → A) (x : A) → f c �
 choose true c d f x h k = h
 choose false c d f x h k = k
 
-put_kind : (c : Cell) (name : Text) (v : Val) → (put c name v).kind ≡ c.kind
+pub put_kind : (c : Cell) (name : Text) (v : Val) → (put c name v).kind ≡ c.kind
 unfolding put with_length with_value
 put_kind c name v = choose (is_array_length c name) (with_length c (whole v)) (with_value c name v) (λ x. x.kind) c.kind refl refl
 
@@ -126,6 +129,18 @@ valid_put cells o name v lt h valid =
     (subst (Within cells) (sym (put_link (cell_at cells o) name v)) (link_at_within cells o valid))
     (names_put (length cells) (cell_at cells o) name v h (names_at cells o lt valid))
     valid
+
+-- an object after a deletion
+pub valid_delete : (cells : List Cell) (o : ℕ) (name : Text) → o < length cells → Valid cells → Valid (set cells o (delete (cell_at cells o) name))
+unfolding delete without_property
+valid_delete cells o name lt valid =
+    valid_set cells o (delete (cell_at cells o) name) lt refl (link_at_within cells o valid)
+    (All-filter (λ p. not (bytes_eq p.0 name)) (λ p. Names (length cells) p.1) (cell_at cells o).properties (names_at cells o lt valid))
+    valid
+
+-- an object with another link
+pub valid_link : (cells : List Cell) (o : ℕ) (link : Option ℕ) → o < length cells → Within cells link → Valid cells → Valid (set cells o (with_link (cell_at cells o) link))
+valid_link cells o link lt w valid = valid_set cells o (with_link (cell_at cells o) link) lt refl w (names_at cells o lt valid) valid
 
 -- a write that may find no memory
 pub valid_written : {T E : Type 0} (r : Result T E) (h new : Heap) (o : ℕ) (name : Text) (v : Val) → OnOk r (new ≡ with_cell h o (put (cell_at h.cells o) name v)) → OnErr r (new ≡ h) → o < length h.cells → Names (length h.cells) v → Valid h.cells → Valid new.cells

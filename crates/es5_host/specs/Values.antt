@@ -1,7 +1,8 @@
 -- What the types of this crate stand for.
+use Rattle.std.specs.Prelude.{ℕ}
 use Rattle.es5_tree.specs.Task.{OutKind}
 use Rattle.es5_tree.specs.Task as out
-use Rattle.es5_tree.specs.Intrinsics.Calls.{HostFn}
+use Rattle.es5_tree.specs.Intrinsics.Calls.{HostFn, number}
 use Rattle.es5_tree.specs.Intrinsics.Calls as call
 use Rattle.es5_host.specs.declared.answer.HostFn.{HostFn as Which}
 use Rattle.es5_host.specs.declared.answer.HostFn.TheVariants.{Create, GetPrototypeOf, SetPrototypeOf, Keys, HasOwnProperty, Call, Apply, IsArray, Push, Slice, CharCodeAt, Substring, IndexOf, FromCharCode, Write, Line}
@@ -31,3 +32,7 @@ fn_of IndexOf = call.IndexOf
 fn_of FromCharCode = call.FromCharCode
 fn_of Write = call.Write
 fn_of Line = call.Line
+
+-- the number of a function
+abbrev pub number_of : Which → ℕ
+number_of which = number (fn_of which)

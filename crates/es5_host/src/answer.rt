@@ -1,7 +1,8 @@
-ghost use Rattle.std.specs.Prelude.{◌≡◌};
+ghost use Rattle.std.specs.Prelude.{◌≡◌, ◌↔◌, Some};
 ghost use Rattle.es5_tree.specs.Intrinsics.Rows.{Throws, not_covered};
 ghost use Rattle.es5_objects.specs.Heap.{Heap};
 ghost use Rattle.es5_host.specs.Answers.{Answered};
+ghost use Rattle.es5_host.specs.Values.{number_of};
 
 use crate::values::EsValues;
 use es5_objects::EsValue;
@@ -28,6 +29,59 @@ pub enum HostFn {
     FromCharCode,
     Write,
     Line,
+}
+
+impl HostFn {
+    /// The number.
+    pub fn number(self) -> u32
+        ensures { result ≡ number_of self }
+    {
+        match self {
+            HostFn::Create => 0,
+            HostFn::GetPrototypeOf => 1,
+            HostFn::SetPrototypeOf => 2,
+            HostFn::Keys => 3,
+            HostFn::HasOwnProperty => 4,
+            HostFn::Call => 5,
+            HostFn::Apply => 6,
+            HostFn::IsArray => 7,
+            HostFn::Push => 8,
+            HostFn::Slice => 9,
+            HostFn::CharCodeAt => 10,
+            HostFn::Substring => 11,
+            HostFn::IndexOf => 12,
+            HostFn::FromCharCode => 13,
+            HostFn::Write => 14,
+            HostFn::Line => 15,
+        }
+    }
+}
+
+// They in the order of their numbers.
+const FUNCTIONS: [HostFn; 16] = [
+    HostFn::Create,
+    HostFn::GetPrototypeOf,
+    HostFn::SetPrototypeOf,
+    HostFn::Keys,
+    HostFn::HasOwnProperty,
+    HostFn::Call,
+    HostFn::Apply,
+    HostFn::IsArray,
+    HostFn::Push,
+    HostFn::Slice,
+    HostFn::CharCodeAt,
+    HostFn::Substring,
+    HostFn::IndexOf,
+    HostFn::FromCharCode,
+    HostFn::Write,
+    HostFn::Line,
+];
+
+/// The intrinsic function of a number, none from 16 on.
+pub fn host_fn(number: u32) -> Option<HostFn>
+    ensures { (which : HostFn) → ((result ≡ Some which) ↔ (number ≡ number_of which)) }
+{
+    FUNCTIONS.get(number as usize).copied()
 }
 
 /// What a script did that the profile doesn't cover.

@@ -17,8 +17,8 @@ use es5_objects::{CellKind, EsText, EsValue, ObjHeap, decimal};
 use opal_base::{Names, NoMemory, Units};
 use std::alloc::Global;
 
-// The number of `Array.prototype`.
-const ARRAY_PROTOTYPE: u32 = 2;
+/// The number of `Array.prototype`.
+pub const ARRAY_PROTOTYPE: u32 = 2;
 
 // The value again, where there is one.
 fn share_if(value: Option<&EsValue>) -> Result<Option<EsValue>, NoMemory>
@@ -92,8 +92,8 @@ fn put_element(
     }
 }
 
-// Puts elements into an object, from the index 0 on.
-fn fill(
+/// Puts elements into an object, from the index 0 on.
+pub fn fill(
     alloc: Global,
     heap: &mut ObjHeap,
     o: u32,

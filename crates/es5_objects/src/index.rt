@@ -64,8 +64,8 @@ pub fn is_length(name: &Units) -> bool
     name.as_slice() == LENGTH.as_slice()
 }
 
-// Puts the digits of a number at the end.
-fn push_decimal(units: &mut Units, n: u32) -> Result<(), NoMemory>
+/// Puts the digits of a number at the end of a text.
+pub fn push_decimal(units: &mut Units, n: u64) -> Result<(), NoMemory>
     ensures { OnOk result (units.new ≡ units.old ++ decimal n) }
 {
     if n < 10 {
@@ -80,6 +80,6 @@ pub fn decimal(alloc: Global, n: u32) -> Result<Units, NoMemory>
     ensures { IfOk result (λ text. text ≡ decimal n) }
 {
     let mut units = Units::new(alloc);
-    push_decimal(&mut units, n)?;
+    push_decimal(&mut units, u64::from(n))?;
     Ok(units)
 }

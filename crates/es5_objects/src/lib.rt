@@ -16,7 +16,7 @@ mod text;
 mod value;
 
 pub use heap::{Cycle, Full, ObjHeap};
-pub use index::{decimal, index_of};
+pub use index::{decimal, index_of, is_length, push_decimal};
 pub use kind::CellKind;
 pub use text::EsText;
 pub use value::EsValue;

@@ -19,19 +19,19 @@ use Rattle.es5_printer.specs.Levels.{of_operator, of_right}
 use Rattle.es5_printer.specs.Pieces.{Piece, marked, plain, text}
 use Rattle.es5_printer.specs.Text.{catch_pieces, expr_part, kind_form, stmt_pieces}
 
-expr_layer : (e : EsExpr) → expr_part e ≡ ((kind_form e.kind).0, ((kind_form e.kind).1.0, (kind_form e.kind).1.1 e.origin))
+pub expr_layer : (e : EsExpr) → expr_part e ≡ ((kind_form e.kind).0, ((kind_form e.kind).1.0, (kind_form e.kind).1.1 e.origin))
 unfolding expr_part kind_form
 expr_layer e = fold-roll-EsExpr Form (List Piece) (List Piece) Part of_kind of_stmt of_catch of_expr (record { kind = e.kind; origin = e.origin; pos = e.pos })
 
-kind_layer : (l : EsKind-F EsKind EsStmt Catch EsExpr) → kind_form (roll-EsKind l) ≡ of_kind (map-EsKind EsKind EsStmt Catch EsExpr Form (List Piece) (List Piece) Part kind_form stmt_pieces catch_pieces expr_part l)
+pub kind_layer : (l : EsKind-F EsKind EsStmt Catch EsExpr) → kind_form (roll-EsKind l) ≡ of_kind (map-EsKind EsKind EsStmt Catch EsExpr Form (List Piece) (List Piece) Part kind_form stmt_pieces catch_pieces expr_part l)
 unfolding expr_part kind_form stmt_pieces catch_pieces
 kind_layer l = fold-roll-EsKind Form (List Piece) (List Piece) Part of_kind of_stmt of_catch of_expr l
 
-stmt_layer : (l : EsStmt-F EsKind EsStmt Catch EsExpr) → stmt_pieces (roll-EsStmt l) ≡ of_stmt (map-EsStmt EsKind EsStmt Catch EsExpr Form (List Piece) (List Piece) Part kind_form stmt_pieces catch_pieces expr_part l)
+pub stmt_layer : (l : EsStmt-F EsKind EsStmt Catch EsExpr) → stmt_pieces (roll-EsStmt l) ≡ of_stmt (map-EsStmt EsKind EsStmt Catch EsExpr Form (List Piece) (List Piece) Part kind_form stmt_pieces catch_pieces expr_part l)
 unfolding expr_part kind_form stmt_pieces catch_pieces
 stmt_layer l = fold-roll-EsStmt Form (List Piece) (List Piece) Part of_kind of_stmt of_catch of_expr l
 
-catch_layer : (l : Catch-F EsKind EsStmt Catch EsExpr) → catch_pieces (roll-Catch l) ≡ of_catch (map-Catch EsKind EsStmt Catch EsExpr Form (List Piece) (List Piece) Part kind_form stmt_pieces catch_pieces expr_part l)
+pub catch_layer : (l : Catch-F EsKind EsStmt Catch EsExpr) → catch_pieces (roll-Catch l) ≡ of_catch (map-Catch EsKind EsStmt Catch EsExpr Form (List Piece) (List Piece) Part kind_form stmt_pieces catch_pieces expr_part l)
 unfolding expr_part kind_form stmt_pieces catch_pieces
 catch_layer l = fold-roll-Catch Form (List Piece) (List Piece) Part of_kind of_stmt of_catch of_expr l
 
@@ -101,7 +101,7 @@ of_and_ l r o = ap (λ x. (kind_form x).1.1 o) (sym (kind.rolls-And l r)) ∙ ap
 pub of_or_ : (l r : EsExpr) (o : Option ℕ) → (kind_form (kind.Or l r)).1.1 o ≡ marked o ++ (f.at_level level.Or (expr_part l) ++ f.operand_behind (codes " || ") level.And (expr_part r))
 of_or_ l r o = ap (λ x. (kind_form x).1.1 o) (sym (kind.rolls-Or l r)) ∙ ap (λ x. x.1.1 o) (kind_layer (EsKind-F.Or l r))
 
-pub of_cond : (t l r : EsExpr) (o : Option ℕ) → (kind_form (kind.Cond t l r)).1.1 o ≡ marked o ++ (f.at_level level.Or (expr_part t) ++ (f.value_behind (codes " ? ") (expr_part l) ++ f.value_behind (codes " : ") (expr_part r)))
+pub of_cond : (t l r : EsExpr) (o : Option ℕ) → (kind_form (kind.Cond t l r)).1.1 o ≡ marked o ++ (f.at_level level.Or (expr_part t) ++ (f.value_behind f.question_sign (expr_part l) ++ f.value_behind (codes " : ") (expr_part r)))
 of_cond t l r o = ap (λ x. (kind_form x).1.1 o) (sym (kind.rolls-Cond t l r)) ∙ ap (λ x. x.1.1 o) (kind_layer (EsKind-F.Cond t l r))
 
 pub of_assign : (l r : EsExpr) (o : Option ℕ) → (kind_form (kind.Assign l r)).1.1 o ≡ marked o ++ (f.at_level level.Call (expr_part l) ++ f.operand_behind (codes " = ") level.Assignment (expr_part r))

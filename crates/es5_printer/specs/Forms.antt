@@ -76,8 +76,12 @@ value_behind sign value = text sign ∷ pieces value
 abbrev pub infixed : Level → Level → Part → List ℕ → Level → Part → Form
 infixed tight on_left left sign on_right right = (tight, (opens_at on_left left, λ origin. marked origin ++ (at_level on_left left ++ operand_behind sign on_right right)))
 
+-- a question mark between blanks, by their codes
+abbrev pub question_sign : List ℕ
+question_sign = 32 ∷ 63 ∷ 32 ∷ []
+
 abbrev pub conditional : Part → Part → Part → List Piece
-conditional test first second = at_level level.Or test ++ (value_behind (codes " ? ") first ++ value_behind (codes " : ") second)
+conditional test first second = at_level level.Or test ++ (value_behind question_sign first ++ value_behind (codes " : ") second)
 
 -- the site of a member is where its name is, that of an index where its key is
 abbrev pub member : Part → List ℕ → Option ℕ → List Piece

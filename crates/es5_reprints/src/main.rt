@@ -3,9 +3,15 @@
 //! them, in the same order, its text as it is printed, without the directive, or
 //! `LINE:COLUMN not a script` where it is none, lines from 1 behind the directive and columns from
 //! 1; and a line `----` behind each. What was printed is read and printed once more: where that
-//! doesn't give the same text, a line `not the same again` follows.
+//! doesn't give the same text, a line `not the same again` follows. At the end the same is done with
+//! made-up scripts: standard output takes the text of each that isn't the same again, and a line with
+//! their numbers.
 #![tactic(auto)]
 
+mod again;
+mod generate;
+
+use crate::again::shown_again;
 use es5_parser::read_whole_script;
 use es5_printer::{PrintStop, print};
 use es5_tree::EsStop;
@@ -37,6 +43,8 @@ fn main(rt: HostRuntime) -> io::Result<()> {
         out.write_all(text.as_slice())?;
         out.write_all(b"----\n")?;
     }
+    let text = shown_again(alloc)?;
+    out.write_all(text.as_slice())?;
     Ok(())
 }
 

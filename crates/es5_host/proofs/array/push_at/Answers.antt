@@ -1,4 +1,4 @@
-use Rattle.std.proofs.Common.{◌≡◌, length, sym, subst, ap}
+use Rattle.std.proofs.Common.{length, sym, subst}
 use Rattle.es5_tree.specs.Objects.Links.{cell_at}
 use Rattle.es5_tree.specs.Intrinsics.Valid.{Names, Valid}
 use Rattle.es5_objects.specs.Values.{value_of}

@@ -1,4 +1,4 @@
-use Rattle.std.proofs.Common.{◌≡◌, ◌∙◌, ◌<◌, length, refl, sym, subst}
+use Rattle.std.proofs.Common.{◌∙◌, ◌<◌, length, refl, sym, subst}
 use Rattle.es5_tree.specs.Objects.Links.{cell_at}
 use Rattle.es5_tree.specs.Intrinsics.Rows.{with_element}
 use Rattle.es5_objects.specs.Values.{value_if}

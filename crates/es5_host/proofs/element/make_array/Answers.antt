@@ -1,4 +1,4 @@
-use Rattle.std.proofs.Common.{◌≡◌, ◌∙◌, ◌<◌, length, refl, sym, subst, ap, map, Some, arith}
+use Rattle.std.proofs.Common.{◌<◌, length, sym, subst, ap, map, Some, arith}
 use Rattle.std.proofs.lemmas.List.Elements.{All-nil}
 use Rattle.es5_tree.specs.State.{Obj}
 use Rattle.es5_tree.specs.Objects.Cells.{new_cell, Array}

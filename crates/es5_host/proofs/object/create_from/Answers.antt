@@ -1,4 +1,4 @@
-use Rattle.std.proofs.Common.{◌≡◌, ◌∙◌, sym, refl, subst}
+use Rattle.std.proofs.Common.{◌∙◌, sym, refl, subst}
 use Rattle.std.proofs.lemmas.List.Elements.{All-nil}
 use Rattle.es5_tree.specs.Objects.Cells.{new_cell, Object}
 use Rattle.es5_tree.specs.Intrinsics.Rows.{link_of, Makes}

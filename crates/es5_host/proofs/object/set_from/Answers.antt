@@ -1,4 +1,3 @@
-use Rattle.std.proofs.Common.{◌≡◌, length}
 use Rattle.es5_tree.specs.Objects.Links.{in_chain}
 use Rattle.es5_tree.specs.Intrinsics.Rows.{link_of, linked, or_type_error}
 use Rattle.es5_objects.specs.Values.{value_of}

@@ -1,15 +1,14 @@
-use Rattle.std.proofs.Common.{◌≡◌, sym, refl, subst, ap}
-use Rattle.es5_tree.specs.Objects.Links.{cell_at, with_link}
+use Rattle.std.proofs.Common.{sym, subst, ap}
 use Rattle.es5_tree.specs.Intrinsics.Rows.{linked}
 use Rattle.es5_tree.specs.Intrinsics.Valid.{Valid}
 use Rattle.es5_host.proofs.Rows.{answered_as, still}
-use Rattle.es5_host.proofs.Validity.{valid_set, names_at}
+use Rattle.es5_host.proofs.Validity.{valid_link}
 use Rattle.es5_host.proofs.object.set_link.Goals as goal
 
 pub returns-in-Ok-clause-valid : goal.returns-in-Ok-clause-valid
 returns-in-Ok-clause-valid c =
     subst (λ h. Valid h.cells) (sym c.in-Ok.ensures.ok)
-    (valid_set c.args.heap.now.cells c.args.o (with_link (cell_at c.args.heap.now.cells c.args.o) c.args.link) c.requires.object refl c.requires.link (names_at c.args.heap.now.cells c.args.o c.requires.object c.requires.valid) c.requires.valid)
+    (valid_link c.args.heap.now.cells c.args.o c.args.link c.requires.object c.requires.link c.requires.valid)
 
 pub returns-in-Err-clause-answer : goal.returns-in-Err-clause-answer
 returns-in-Err-clause-answer c = still _ _ _ _ c.in-Err.ensures.err

@@ -1,5 +1,4 @@
-use Rattle.std.proofs.Common.{◌≡◌, ◌≤◌, length, drop, arith}
-use Rattle.es5_tree.specs.Intrinsics.Rows.{first_place}
+use Rattle.std.proofs.Common.{◌≡◌, ◌≤◌, length, arith}
 use Rattle.es5_host.proofs.Places.{stands_here, stands_later, stands_last, stands_nowhere}
 use Rattle.es5_host.proofs.text.first_place.Goals as goal
 

@@ -1,4 +1,4 @@
-use Rattle.std.proofs.Common.{◌≡◌, ◌≤◌, length, drop}
+use Rattle.std.proofs.Common.{◌≡◌, drop}
 use Rattle.es5_tree.specs.Intrinsics.Rows.{first_place}
 use Rattle.es5_host.proofs.text.first_place.Given as goal
 

@@ -1,4 +1,4 @@
-use Rattle.std.proofs.Common.{◌≡◌, ◌∙◌, ap, length, drop}
+use Rattle.std.proofs.Common.{◌∙◌, ap, length, drop}
 use Rattle.es5_tree.specs.Intrinsics.Lines.{line_of}
 use Rattle.es5_host.proofs.Reading.{read_within}
 use Rattle.es5_host.proofs.lines.Lines.next_line.Goals as goal

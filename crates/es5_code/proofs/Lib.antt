@@ -1,0 +1,6 @@
+pub mod Nodes
+pub mod Found
+pub mod Gathering
+pub mod NewNames
+pub mod Tables
+pub mod Forms

@@ -1,0 +1,3 @@
+pub mod TaskLaws
+pub mod Frames
+pub mod Moving

@@ -1,0 +1,11 @@
+pub mod Growth
+pub mod NewFunctions
+pub mod NewRecords
+pub mod Filling
+pub mod NewObjects
+pub mod Holding
+pub mod Binding
+pub mod CallSteps
+pub mod HostSteps
+pub mod PlainRows
+pub mod InvokeSteps

@@ -1,0 +1,4 @@
+pub mod Spellable
+pub mod Laws
+pub mod Test
+pub mod Nodes
