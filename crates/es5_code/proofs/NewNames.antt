@@ -5,7 +5,7 @@ use Rattle.std.specs.List.{list_any}
 use Rattle.std.proofs.Math.Seq.{drop-cons}
 use Rattle.std.proofs.lemmas.List.Folds.{list_any-append}
 use Rattle.std.proofs.lemmas.Option.{slice_get_within, get_or_from_slice_get}
-use Rattle.es5_tree.specs.State.{Text}
+use Rattle.es5_tree.specs.Values.{Text}
 use Rattle.es5_evaluation.specs.Declared.{new_names}
 use Rattle.es5_code.specs.Own.{with_new}
 use Rattle.es5_code.proofs.Gathering.{or_assoc, or_false}

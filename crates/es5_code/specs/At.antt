@@ -1,7 +1,7 @@
 -- What a table says of the node at a number.
 use Rattle.std.specs.Prelude.{◌≡◌, ℕ, suc, List, [], ◌∷◌, drop, Option, None, Some}
 use Rattle.es5_tree.specs.declared.tree.EsStmt.{out-EsStmt}
-use Rattle.es5_tree.specs.State.{Text}
+use Rattle.es5_tree.specs.Values.{Text}
 use Rattle.es5_evaluation.specs.Evaluate.{layer}
 use Rattle.es5_code.specs.declared.node.Node.{Node}
 use Rattle.es5_code.specs.declared.node.ExprNode.{ExprNode}

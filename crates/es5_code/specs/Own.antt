@@ -1,7 +1,7 @@
 -- Names that are found one after the other.
 use Rattle.std.specs.Prelude.{List, [], ◌∷◌, ◌++◌, ◌||◌, if◌then◌else◌, bytes_eq}
 use Rattle.std.specs.List.{list_any}
-use Rattle.es5_tree.specs.State.{Text}
+use Rattle.es5_tree.specs.Values.{Text}
 use Rattle.es5_evaluation.specs.Declared.{OwnCode}
 use Rattle.es5_code.specs.declared.own.OwnNames.{OwnNames}
 

@@ -6,7 +6,7 @@ use Rattle.es5_tree.specs.declared.tree.EsExpr.{EsExpr}
 use Rattle.es5_tree.specs.declared.tree.EsKind.{roll-EsKind}
 use Rattle.es5_tree.specs.declared.tree.EsKind.TheOpen.{EsKind-F, EsStmt-F}
 use Rattle.es5_tree.specs.declared.tree.EsStmt.{EsStmt, roll-EsStmt}
-use Rattle.es5_tree.specs.State.{Text}
+use Rattle.es5_tree.specs.Values.{Text}
 use Rattle.es5_evaluation.specs.State.{Code}
 use Rattle.es5_evaluation.specs.Evaluate.{Layer, Statement}
 use Rattle.es5_evaluation.specs.Declared.{arguments_name, locals, own_code}

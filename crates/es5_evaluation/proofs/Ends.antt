@@ -4,8 +4,8 @@ use Rattle.std.proofs.lemmas.Bool.{cases_lt}
 use Rattle.opal_base.specs.Shown.{HostCall, Wrote, Ended, Shows, output_of}
 use Rattle.opal_base.specs.Text.{utf8_of}
 use Rattle.es5_tree.specs.declared.tree.Script.{Script}
-use Rattle.es5_tree.specs.State.{Text}
-use Rattle.es5_tree.specs.Run.{EsEnd, Outside}
+use Rattle.es5_tree.specs.Values.{Text}
+use Rattle.es5_tree.specs.Ends.{EsEnd, Outside}
 use Rattle.es5_evaluation.specs.State.{State}
 use Rattle.es5_evaluation.specs.Task.{Outcome, Left, Going}
 use Rattle.es5_evaluation.specs.Task as task

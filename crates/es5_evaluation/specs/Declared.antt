@@ -7,7 +7,7 @@ use Rattle.es5_tree.specs.declared.tree.Catch.{Catch}
 use Rattle.es5_tree.specs.declared.tree.EsExpr.{EsExpr}
 use Rattle.es5_tree.specs.declared.tree.EsKind.{EsKind}
 use Rattle.es5_tree.specs.declared.tree.EsStmt.{EsStmt}
-use Rattle.es5_tree.specs.State.{Text}
+use Rattle.es5_tree.specs.Values.{Text}
 
 -- the names of its `var` statements in their order, and whether `arguments` is named
 pub record OwnCode : Type 0 where

@@ -7,8 +7,8 @@ use Rattle.es5_tree.specs.declared.tree.EsKind.{EsKind, out-EsKind}
 use Rattle.es5_tree.specs.declared.tree.EsKind.TheOpen.{EsKind-F, EsStmt-F}
 use Rattle.es5_tree.specs.declared.tree.EsStmt.{EsStmt, out-EsStmt}
 use Rattle.es5_tree.specs.declared.tree.Catch.{out-Catch}
-use Rattle.es5_tree.specs.State.{Text, Val, Undefined, Null, Truth, Num, Str, Obj}
-use Rattle.es5_tree.specs.Task.{Conversion, Host}
+use Rattle.es5_tree.specs.Values.{Text, Val, Undefined, Null, Truth, Num, Str, Obj}
+use Rattle.es5_tree.specs.Ends.{Conversion, Host}
 use Rattle.es5_tree.specs.Objects.Names.{length_name}
 use Rattle.es5_tree.specs.Objects.Cells.{Cell, Kind, Object, Arguments, Function, new_cell, put, delete, is_array_length}
 use Rattle.es5_tree.specs.Objects.Cells as kind

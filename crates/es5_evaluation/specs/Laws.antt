@@ -2,8 +2,8 @@
 use Rattle.std.specs.Prelude.{◌≡◌, ℕ, ◌+◌, ◌≤◌, List, ◌++◌}
 use Rattle.opal_base.specs.Shown.{Ended, Shows}
 use Rattle.es5_tree.specs.declared.tree.Script.{Script}
-use Rattle.es5_tree.specs.State.{Text}
-use Rattle.es5_tree.specs.Run.{EsEnd}
+use Rattle.es5_tree.specs.Values.{Text}
+use Rattle.es5_tree.specs.Ends.{EsEnd}
 use Rattle.es5_evaluation.specs.Run.{es_run, cells_at}
 
 -- once a run has ended, more units change nothing

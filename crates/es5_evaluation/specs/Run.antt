@@ -3,8 +3,8 @@ use Rattle.std.specs.Prelude.{ℕ, zero, suc, ◌+◌, ◌-◌, List, [], ◌∷
 use Rattle.opal_base.specs.Shown.{Shown, output_of}
 use Rattle.opal_base.specs.Shown as shown
 use Rattle.es5_tree.specs.declared.tree.Script.{Script}
-use Rattle.es5_tree.specs.State.{Text, Val, Undefined, Obj}
-use Rattle.es5_tree.specs.Run.{EsEnd, Finished, Uncaught, Outside, text_or}
+use Rattle.es5_tree.specs.Values.{Text, Val, Undefined, Obj}
+use Rattle.es5_tree.specs.Ends.{EsEnd, Finished, Uncaught, Outside, text_or}
 use Rattle.es5_tree.specs.Objects.Cells.{Cell, own}
 use Rattle.es5_tree.specs.Objects.Links.{cell_at}
 use Rattle.es5_tree.specs.Intrinsics.Made as made

@@ -2,7 +2,7 @@
 use Rattle.std.specs.Prelude.{ℕ, zero, suc, ◌||◌, Bool, if◌then◌else◌, List, [], length, slice_index_or, slice_set, Option, None, Some, is_some}
 use Rattle.opal_base.specs.Shown.{HostCall}
 use Rattle.es5_tree.specs.declared.tree.EsStmt.{EsStmt}
-use Rattle.es5_tree.specs.State.{Text, Val, find_own, first}
+use Rattle.es5_tree.specs.Values.{Text, Val, find_own, first}
 use Rattle.es5_tree.specs.Objects.Cells.{Cell, with_property}
 use Rattle.es5_tree.specs.Intrinsics.Lines.{Reading}
 

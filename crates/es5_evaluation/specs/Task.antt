@@ -4,8 +4,8 @@ use Rattle.opal_base.specs.declared.place.Pos.{Pos}
 use Rattle.opal_base.specs.Shown.{Wrote}
 use Rattle.es5_tree.specs.declared.tree.EsExpr.{EsExpr}
 use Rattle.es5_tree.specs.declared.tree.EsStmt.{EsStmt}
-use Rattle.es5_tree.specs.State.{Text, Val}
-use Rattle.es5_tree.specs.Task.{OutKind}
+use Rattle.es5_tree.specs.Values.{Text, Val}
+use Rattle.es5_tree.specs.Ends.{OutKind}
 use Rattle.es5_tree.specs.Objects.Cells.{Cell}
 use Rattle.es5_tree.specs.Objects.Links.{set_cell}
 use Rattle.es5_tree.specs.Intrinsics.Lines.{advanced}

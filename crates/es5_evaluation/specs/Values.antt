@@ -3,8 +3,8 @@ use Rattle.std.specs.Prelude.{ℕ, Bool, true, false, not, ◌&&◌, if◌then�
 use Rattle.std.specs.Ordering.{int_eq}
 use Rattle.es5_tree.specs.declared.tree.Operator.{Operator}
 use Rattle.es5_tree.specs.declared.tree.Operator.TheVariants as operator
-use Rattle.es5_tree.specs.State.{Text, Val, Undefined, Null, Truth, Num, Str, Obj, first}
-use Rattle.es5_tree.specs.Task.{OutKind, Number, Division, Conversion}
+use Rattle.es5_tree.specs.Values.{Text, Val, Undefined, Null, Truth, Num, Str, Obj, first}
+use Rattle.es5_tree.specs.Ends.{OutKind, Number, Division, Conversion}
 use Rattle.es5_tree.specs.Objects.Names.{decimal, index_of, is_length}
 use Rattle.es5_tree.specs.Objects.Cells.{Kind, Object, Array, Arguments, Function, Host, Record, Cell}
 use Rattle.es5_tree.specs.Objects.Links.{cell_at, get}

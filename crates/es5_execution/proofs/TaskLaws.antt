@@ -1,7 +1,7 @@
 -- Tasks one after another.
 use Rattle.std.proofs.Common.{◌≡◌, refl}
 use Rattle.opal_base.specs.declared.place.Pos.{Pos}
-use Rattle.es5_tree.specs.Task.{OutKind}
+use Rattle.es5_tree.specs.Ends.{OutKind}
 use Rattle.es5_evaluation.specs.Task.{Completion, Request, Task, Done, Leaves, Ask, Look, Set, Make, Keep, Enter, Store, Print, Read, ◌>>=◌}
 
 pub bind_assoc : (t : Task) (f h : Completion → Task) → ((t >>= f) >>= h) ≡ (t >>= (λ c. f c >>= h))

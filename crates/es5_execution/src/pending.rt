@@ -306,6 +306,7 @@ impl Pending {
     ) -> Result<Rest, Halt>
         requires sound { Sound store.old }
         ensures sound { OnOk result (Sound store.new) }
+        ensures limit { OnOk result (store.new.limit ≡ store.old.limit) }
         ensures does { Settled result table.now.nodes (doing table.now.nodes (scope_of self.old.scope) first self.old.stack) store.old (scope_of self.new.scope) self.new.stack store.new (S.told sink.old) (S.told sink.new) }
         ensures later { S.faults sink.old ≤ S.faults sink.new }
         ensures cause { IfErr result (λ h. HaltCaused h (S.faults sink.old) (S.faults sink.new)) }
@@ -332,6 +333,7 @@ impl Pending {
     ) -> Result<Rest, Halt>
         requires sound { Sound store.old }
         ensures sound { OnOk result (Sound store.new) }
+        ensures limit { OnOk result (store.new.limit ≡ store.old.limit) }
         ensures does { Settled result table.now.nodes (beginning table.now.nodes (scope_of self.old.scope) begins self.old.stack) store.old (scope_of self.new.scope) self.new.stack store.new (S.told sink.old) (S.told sink.new) }
         ensures later { S.faults sink.old ≤ S.faults sink.new }
         ensures cause { IfErr result (λ h. HaltCaused h (S.faults sink.old) (S.faults sink.new)) }

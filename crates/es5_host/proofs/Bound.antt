@@ -4,7 +4,7 @@ use Rattle.std.proofs.lemmas.List.{length-map}
 use Rattle.std.proofs.lemmas.Bool.{lt-ltb, cases_lt}
 use Rattle.std.proofs.lemmas.Bool.Decides.{nat_tests}
 use Rattle.std.specs.List.{position_or_len}
-use Rattle.es5_tree.specs.State.{Text, Val, find_own}
+use Rattle.es5_tree.specs.Values.{Text, Val, find_own}
 use Rattle.es5_tree.specs.Objects.Cells.{with_property}
 use Rattle.es5_objects.specs.declared.value.EsValue.{EsValue}
 use Rattle.es5_objects.specs.Values.{value_of}

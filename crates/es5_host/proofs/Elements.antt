@@ -6,7 +6,7 @@ use Rattle.std.proofs.Math.Seq.{set-append_seam, get_or-append_seam}
 use Rattle.std.proofs.lemmas.List.{get_or-set_same, set-set, map-append, take_more}
 use Rattle.std.proofs.lemmas.Option.{get_or_from_slice_get}
 use Rattle.std.proofs.lemmas.List.FromFn.{map-range_with_len_more}
-use Rattle.es5_tree.specs.State.{Text, Val, Str}
+use Rattle.es5_tree.specs.Values.{Text, Val, Str}
 use Rattle.es5_tree.specs.Objects.Names.{decimal}
 use Rattle.es5_tree.specs.Objects.Cells.{Cell, Object, new_cell}
 use Rattle.es5_tree.specs.Objects.Links.{cell_at, get}

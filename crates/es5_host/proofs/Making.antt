@@ -4,7 +4,7 @@ use Rattle.std.specs.List.{range_with_len}
 use Rattle.std.proofs.lemmas.List.FromFn.{map-range_with_len_more}
 use Rattle.std.proofs.lemmas.List.{get_or_default}
 use Rattle.std.proofs.Math.Seq.{set-append_seam}
-use Rattle.es5_tree.specs.State.{Text, Val}
+use Rattle.es5_tree.specs.Values.{Text, Val}
 use Rattle.es5_tree.specs.Objects.Cells.{Cell, Object, Host, new_cell, put}
 use Rattle.es5_tree.specs.Objects.Links.{cell_at}
 use Rattle.es5_tree.specs.Intrinsics.Made.{prototypes, constructors, host, functions}

@@ -4,7 +4,7 @@ use Rattle.std.specs.List.{All, range_with_len}
 use Rattle.std.proofs.lemmas.Bool.{cases_lt}
 use Rattle.std.proofs.lemmas.List.{get_or_past}
 use Rattle.std.proofs.lemmas.List.Elements.{All-nil, All-cons, All-head, All-tail, All-map}
-use Rattle.es5_tree.specs.State.{Text, Val, Num, Str, find_own, first}
+use Rattle.es5_tree.specs.Values.{Text, Val, Num, Str, find_own, first}
 use Rattle.es5_tree.specs.Objects.Names.{decimal}
 use Rattle.es5_tree.specs.Objects.Cells.{Cell, Object, new_cell, own, is_array_length}
 use Rattle.es5_tree.specs.Objects.Links.{cell_at, chain, first_own, get}

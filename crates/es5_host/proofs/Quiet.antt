@@ -2,7 +2,7 @@
 use Rattle.std.proofs.Common.{ℕ, List, [], ◌∷◌, Bool, true, false, Option, Some, None, subst, ◌&&◌, nat_le, nat_lt, length, drop, pos}
 use Rattle.std.specs.Prelude.{slice_index, slice_range}
 use Rattle.std.specs.Bool.{⊤}
-use Rattle.es5_tree.specs.State.{Val, Num, Str}
+use Rattle.es5_tree.specs.Values.{Val, Num, Str}
 use Rattle.es5_tree.specs.Intrinsics.Lines.{Reading}
 use Rattle.es5_tree.specs.Intrinsics.Rows.{Row, Gives, Sets, Makes, Throws, Invokes, Leaves, Writes, Reads, covered, where_true, one_of, two_of, natural_of, text_of, char_code_at, substring, index_of, from_char_code, first_place, place_value, line}
 use Rattle.es5_objects.specs.Heap.{Heap}

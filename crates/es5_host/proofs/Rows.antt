@@ -1,6 +1,6 @@
 -- Rows at arguments of some kinds, and answers to equal rows.
 use Rattle.std.proofs.Common.{◌≡◌, ℕ, ◌<◌, List, length, Option, Some, None, sym, ap, subst, ◌∙◌, codes}
-use Rattle.es5_tree.specs.State.{Val, Undefined, Null, Truth, Num, Str, Obj}
+use Rattle.es5_tree.specs.Values.{Val, Undefined, Null, Truth, Num, Str, Obj}
 use Rattle.es5_tree.specs.Objects.Cells.{Cell}
 use Rattle.es5_tree.specs.Objects.Links.{Within}
 use Rattle.es5_tree.specs.Intrinsics.Rows.{Row, Throws, covered, or_type_error, not_covered, link_of, object_of}

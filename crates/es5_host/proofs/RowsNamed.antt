@@ -4,7 +4,7 @@ use Rattle.std.specs.Bool.{⊤}
 use Rattle.std.specs.Prelude.{slice_index, slice_range}
 use Rattle.std.specs.List.{All}
 use Rattle.std.proofs.lemmas.List.Elements.{All-nil, All-head, All-tail, All-map}
-use Rattle.es5_tree.specs.State.{Text, Val, Undefined, Null, Truth, Num, Str, Obj}
+use Rattle.es5_tree.specs.Values.{Text, Val, Undefined, Null, Truth, Num, Str, Obj}
 use Rattle.es5_tree.specs.Objects.Names.{decimal, index_end}
 use Rattle.es5_tree.specs.Objects.Cells.{Cell, put}
 use Rattle.es5_tree.specs.Objects.Links.{cell_at, link_at, in_chain, Within, LinksWithin}

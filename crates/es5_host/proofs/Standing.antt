@@ -4,7 +4,7 @@ use Rattle.std.specs.List.{All, list_all}
 use Rattle.std.proofs.lemmas.Bool.{cases_lt}
 use Rattle.std.proofs.lemmas.List.Sums.{AllPass-from_list_all}
 use Rattle.std.proofs.lemmas.List.{get_or_past}
-use Rattle.es5_tree.specs.State.{Text, Val, Undefined, Null, Truth, Num, Str, Obj}
+use Rattle.es5_tree.specs.Values.{Text, Val, Undefined, Null, Truth, Num, Str, Obj}
 use Rattle.es5_tree.specs.Objects.Cells.{Cell, Object, Host, new_cell}
 use Rattle.es5_tree.specs.Objects.Links.{cell_at, Within, LinksWithin}
 use Rattle.es5_tree.specs.Intrinsics.Calls.{HostFn, number}

@@ -4,7 +4,7 @@ use Rattle.std.specs.List.{All}
 use Rattle.std.proofs.lemmas.Bool.{false≢true}
 use Rattle.std.proofs.lemmas.List.{get_or_append_left, set-get_or}
 use Rattle.std.proofs.lemmas.List.Elements.{All-weaker, All-push, All-set, All-get_or, All-filter, All-nil, All-cons, All-head, All-tail}
-use Rattle.es5_tree.specs.State.{Text, Val, Undefined, Null, Truth, Num, Str, Obj}
+use Rattle.es5_tree.specs.Values.{Text, Val, Undefined, Null, Truth, Num, Str, Obj}
 use Rattle.es5_tree.specs.Objects.Cells.{Cell, Object, new_cell, put, delete, without_property, with_property, with_length, with_value, elements_below, stays_below, is_array, is_array_length, whole, CanPut}
 use Rattle.es5_tree.specs.Objects.Names.{index_of, decimal, is_length, length_name}
 use Rattle.es5_tree.specs.Objects.Links.{cell_at, with_link, Within, LinksWithin}

@@ -5,7 +5,7 @@ use Rattle.opal_base.specs.Text.{utf8_of}
 use Rattle.es5_tree.specs.Intrinsics.Lines.{Reading, advanced}
 use Rattle.es5_tree.specs.Intrinsics.Calls.{HostFn}
 use Rattle.es5_tree.specs.Intrinsics.Calls as call
-use Rattle.es5_tree.specs.State.{Text, Val, Undefined, Obj}
+use Rattle.es5_tree.specs.Values.{Text, Val, Undefined, Obj}
 use Rattle.es5_tree.specs.Objects.Cells.{Cell}
 use Rattle.es5_tree.specs.Intrinsics.Rows.{Row, Gives, Sets, Makes, Throws, Invokes, Leaves, Writes, Reads}
 use Rattle.es5_tree.specs.Intrinsics.Valid.{Names}

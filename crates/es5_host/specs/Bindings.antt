@@ -1,6 +1,6 @@
 -- Names and their values, in order: the globals, or the variables of an activation record (ECMA-262 5.1, section 10.2.1.1).
 use Rattle.std.specs.Prelude.{ℕ, zero, suc, if◌then◌else◌, List, [], ◌∷◌, map, Option, None, Some, bytes_eq, slice_get}
-use Rattle.es5_tree.specs.State.{Text, Val}
+use Rattle.es5_tree.specs.Values.{Text, Val}
 use Rattle.es5_objects.specs.Values.{value_of}
 use Rattle.es5_host.specs.declared.bindings.Binding.{Binding}
 

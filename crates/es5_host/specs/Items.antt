@@ -1,6 +1,6 @@
 -- A list of values as what they stand for.
 use Rattle.std.specs.Prelude.{List, map}
-use Rattle.es5_tree.specs.State.{Val}
+use Rattle.es5_tree.specs.Values.{Val}
 use Rattle.es5_objects.specs.declared.value.EsValue.{EsValue}
 use Rattle.es5_objects.specs.Values.{value_of}
 

@@ -1,6 +1,6 @@
 -- What the definitions of this crate and of valid heaps come to.
 use Rattle.std.specs.Prelude.{◌≡◌, ℕ, ◌+◌, ◌<◌, ◌≤◌, List, [], ◌∷◌, ◌++◌, length, Option, Some, None, All}
-use Rattle.es5_tree.specs.State.{Text, Val, find_own}
+use Rattle.es5_tree.specs.Values.{Text, Val, find_own}
 use Rattle.es5_tree.specs.Objects.Cells.{Cell, Kind, Host, new_cell, own, put, delete, with_property}
 use Rattle.es5_tree.specs.Objects.Links.{cell_at, get, set_cell, with_link, Within}
 use Rattle.es5_tree.specs.Intrinsics.Calls.{HostFn, number}

@@ -1,6 +1,6 @@
 -- How the intrinsic objects are made: one after the other, their properties one after the other.
 use Rattle.std.specs.Prelude.{◌+◌, List, [], ◌∷◌, ◌++◌}
-use Rattle.es5_tree.specs.State.{Text, Val, Obj}
+use Rattle.es5_tree.specs.Values.{Text, Val, Obj}
 use Rattle.es5_tree.specs.Objects.Cells.{Cell, put}
 use Rattle.es5_objects.specs.Heap.{Heap}
 use Rattle.es5_host.specs.declared.made.Member.{Member}

@@ -1,7 +1,7 @@
 -- What the types of this crate stand for.
 use Rattle.std.specs.Prelude.{ℕ}
-use Rattle.es5_tree.specs.Task.{OutKind}
-use Rattle.es5_tree.specs.Task as out
+use Rattle.es5_tree.specs.Ends.{OutKind}
+use Rattle.es5_tree.specs.Ends as out
 use Rattle.es5_tree.specs.Intrinsics.Calls.{HostFn, number}
 use Rattle.es5_tree.specs.Intrinsics.Calls as call
 use Rattle.es5_host.specs.declared.answer.HostFn.{HostFn as Which}

@@ -1,7 +1,7 @@
 //! The functions that make, read or change arrays (ECMA-262 5.1, sections 15.2.3.14, 15.4.3 and 15.4.4).
 
 ghost use Rattle.std.specs.Prelude.{◌≡◌, ◌<◌, ◌+◌, ◌-◌, ◌&&◌, nat_lt, nat_le, pos, All, length, map, Some, IfOk, IfSome};
-ghost use Rattle.es5_tree.specs.State.{Str, Num};
+ghost use Rattle.es5_tree.specs.Values.{Str, Num};
 ghost use Rattle.es5_tree.specs.Objects.Names.{decimal, length_name, index_end};
 ghost use Rattle.es5_tree.specs.Objects.Cells.{keys, put};
 ghost use Rattle.es5_tree.specs.Objects.Links.{cell_at};

@@ -27,7 +27,7 @@ pub type Globals = Bindings;
 
 impl Model for Bindings {
     ghost use Rattle.std.specs.Prelude.{List};
-    ghost use Rattle.es5_tree.specs.State.{Text, Val};
+    ghost use Rattle.es5_tree.specs.Values.{Text, Val};
 
     ghost Value = { List (Text × Val) };
 

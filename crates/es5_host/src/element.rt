@@ -4,7 +4,7 @@ ghost use Rattle.std.specs.Prelude.{◌≡◌, ◌+◌, ◌<◌, ◌^◌, [], �
 ghost use Rattle.std.specs.Option.{option_copied};
 ghost use Rattle.es5_tree.specs.Objects.Links.{cell_at, get};
 ghost use Rattle.es5_tree.specs.Objects.Names.{decimal};
-ghost use Rattle.es5_tree.specs.State.{Str};
+ghost use Rattle.es5_tree.specs.Values.{Str};
 ghost use Rattle.es5_tree.specs.Intrinsics.Rows.{elements, with_element, filled, array_of, Makes};
 ghost use Rattle.es5_tree.specs.Intrinsics.Valid.{Valid};
 ghost use Rattle.es5_objects.specs.Heap.{with_cell};

@@ -1,7 +1,7 @@
 //! The objects that stand before a script begins, and the globals (ECMA-262 5.1, section 15).
 
 ghost use Rattle.std.specs.Prelude.{◌≡◌, ◌≤◌, ◌<◌, ◌+◌, [], ◌∷◌, ◌++◌, length, map, IfOk, OnOk, Some};
-ghost use Rattle.es5_tree.specs.State.{Obj};
+ghost use Rattle.es5_tree.specs.Values.{Obj};
 ghost use Rattle.es5_tree.specs.Objects.Cells.{Host, Object, new_cell, put};
 ghost use Rattle.es5_tree.specs.Objects.Links.{Within, cell_at};
 ghost use Rattle.es5_tree.specs.Intrinsics.Made.{cells, constructors, functions, globals, host, prototypes};

@@ -2,7 +2,7 @@
 
 ghost use Rattle.std.specs.Prelude.{◌≡◌, ◌+◌, ◌≤◌, ◌&&◌, nat_lt, nat_le, nat_eq, pos, [], ◌∷◌, drop, length, slice_index, slice_range, IfOk};
 ghost use Rattle.std.specs.List.{starts_with};
-ghost use Rattle.es5_tree.specs.State.{Num, Str};
+ghost use Rattle.es5_tree.specs.Values.{Num, Str};
 ghost use Rattle.es5_tree.specs.Intrinsics.Rows.{Gives, char_code_at, covered, first_place, from_char_code, index_of, one_of, place_value, substring, two_of, where_true};
 ghost use Rattle.es5_objects.specs.Heap.{Heap};
 ghost use Rattle.es5_objects.specs.Values.{value_of};

@@ -15,7 +15,7 @@ pub struct EsValues {
 
 impl Model for EsValues {
     ghost use Rattle.std.specs.Prelude.{List};
-    ghost use Rattle.es5_tree.specs.State.{Val};
+    ghost use Rattle.es5_tree.specs.Values.{Val};
 
     ghost Value = { List Val };
 

@@ -3,8 +3,7 @@
 ghost use Rattle.std.specs.Prelude.{◌≡◌, ◌+◌, ◌<◌, ◌≤◌, ◌^◌, ◌++◌, length, IfOk, IfErr, OnOk};
 ghost use Rattle.opal_base.specs.Place.{place_at};
 ghost use Rattle.std.specs.List.{AllByRecursion};
-ghost use Rattle.es5_tree.specs.Lexed.{Ascends, IsSafe, LexesTo, NoTokenPlace, StopsAt};
-ghost use Rattle.es5_tree.specs.Spells.{IsEnded};
+ghost use Rattle.es5_tree.specs.Lexed.{Ascends, IsSafe, LexesTo, NoTokenPlace, StopsAt, IsEnded};
 ghost use Rattle.es5_lexer.specs.Pieces.{token_here};
 
 use crate::piece::next_allowed;

@@ -1,5 +1,2 @@
-mod Tasks
-mod Plans
-mod Steps
-mod Moves
-mod Whole
+pub mod First
+pub mod Whole

@@ -1,130 +1,70 @@
--- What the machine does between two nodes, beside the runs of the definition.
-use Rattle.std.specs.Prelude.{◌≡◌, ℕ, suc, ◌+◌, ◌<◌, List, [], ◌∷◌, ◌++◌, Option, Some, None, Result, Ok, Err}
-use Rattle.opal_base.specs.Outside.{appended}
-use Rattle.opal_base.specs.Shown.{HostCall, output_of}
-use Rattle.es5_tree.specs.declared.small.Script.{Script}
-use Rattle.es5_tree.specs.declared.small.EsStmt.{EsStmt}
-use Rattle.es5_tree.specs.declared.small.EsExpr.{EsExpr}
-use Rattle.es5_tree.specs.State.{Text, Str, Obj, Plain, World, State, object_prototype, add_cell, add_frame, first_state}
-use Rattle.es5_tree.specs.Task.{Outcome, Throwing, Left, run, counted}
-use Rattle.es5_tree.specs.Eval.{Completion, all, exec_to}
-use Rattle.es5_tree.specs.Run.{global_scope, world_of}
-use Rattle.std.specs.Prelude.{codes}
+-- What a machine holds between two nodes, beside the evaluation of its script.
+use Rattle.std.specs.Prelude.{◌≡◌, ℕ, ◌+◌, List, Option, None, Some, ⊤}
+use Rattle.opal_base.specs.Shown.{HostCall}
+use Rattle.es5_tree.specs.declared.tree.Script.{Script}
+use Rattle.es5_tree.specs.Values.{Text}
+use Rattle.es5_tree.specs.Ends.{EsEnd, Finished, Uncaught, Outside}
+use Rattle.es5_tree.specs.Objects.Cells.{Cell}
+use Rattle.es5_evaluation.specs.Task.{Scope, walk}
+use Rattle.es5_evaluation.specs.Run.{ask, outcome, end_of}
+use Rattle.es5_host.specs.Values.{out_of}
+use Rattle.es5_code.specs.At.{Table}
+use Rattle.es5_code.specs.Trees.{stmts_in}
+use Rattle.es5_pending.specs.declared.action.Begins.{Begins}
+use Rattle.es5_pending.specs.declared.frame.Frame.{Frame}
+use Rattle.es5_pending.specs.Meaning.{completion_of}
+use Rattle.es5_store.specs.declared.effect.Halt.{Halt}
+use Rattle.es5_store.specs.declared.effect.Halt.TheVariants as halt
+use Rattle.es5_store.specs.declared.store.Store.{Store}
+use Rattle.es5_store.specs.Store.{Sound, state_in}
+use Rattle.es5_execution.specs.declared.pending.Rest.{Rest}
+use Rattle.es5_execution.specs.declared.pending.Rest.TheVariants as rest
+use Rattle.es5_execution.specs.Progress.{rest_task}
 use Rattle.es5_machine.specs.declared.end.RunEnd.{RunEnd}
 use Rattle.es5_machine.specs.declared.end.RunEnd.TheVariants as end
-use Rattle.es5_machine.specs.declared.value.Value.{Value}
-use Rattle.es5_machine.specs.declared.work.Frame.{Frame}
-use Rattle.es5_machine.specs.declared.work.Fault.{Fault}
-use Rattle.es5_machine.specs.declared.work.Action.{Action}
-use Rattle.es5_machine.specs.Meaning.{ready, val_of, fault_name, fault_message, meaning, doing, waiting}
-use Rattle.es5_machine.specs.Run.{kind_of, IsFront}
 
--- what is left to do, from a world and with a number of units
-abbrev pub Runs : Type 0
-Runs = World → ℕ → Outcome Completion
+-- ---- ends
 
--- the next expression or statement begins
-abbrev pub going : Option EsExpr → List Frame → List EsStmt → Runs
-going next fs ts w g = run (meaning g next fs ts) (ready w) g
+-- how what is left to do ends a script, over these objects; not where a node begins
+abbrev pub end_in : Rest → List Cell → Option EsEnd
+end_in (rest.Begins b) cells = None
+end_in (rest.Ended c) cells = Some (end_of (completion_of c) cells)
+end_in (rest.Left kind pos) cells = Some (Outside (out_of kind) pos)
 
--- the action is done first
-abbrev pub acting : Action → List Frame → List EsStmt → Runs
-acting a fs ts w g = run (doing g a fs ts) (ready w) g
+-- the node that begins, where one does
+abbrev pub IsNode : Rest → Option Begins → Type 0
+IsNode r None = (cells : List Cell) → end_in r cells ≡ None → ⊥
+IsNode r (Some b) = r ≡ rest.Begins b
 
--- the value goes to what waits
-abbrev pub giving : Value → List Frame → List EsStmt → Runs
-giving v fs ts w g = run (waiting g fs ts (val_of v)) (ready w) g
+-- a machine tells this end so, or no memory was found for its texts; where there is none, the script goes on
+abbrev pub IsTold : Option EsEnd → RunEnd → Type 0
+IsTold e end.Finished = e ≡ Some Finished
+IsTold e (end.Uncaught name message) = e ≡ Some (Uncaught name message)
+IsTold e (end.Outside kind pos) = e ≡ Some (Outside (out_of kind) pos)
+IsTold e end.OutOfSteps = e ≡ None
+IsTold e end.CellsFull = ⊥
+IsTold e end.WriteFault = ⊥
+IsTold e end.NoMemory = ⊤
 
--- with one unit more
-abbrev pub with_one : Runs → Runs
-with_one R w g = R w (suc g)
+abbrev pub end_of_halt : Halt → RunEnd
+end_of_halt halt.CellsFull = end.CellsFull
+end_of_halt halt.WriteFault = end.WriteFault
+end_of_halt halt.NoMemory = end.NoMemory
 
-abbrev pub with_calls : World → List HostCall → World
-with_calls w more = record w { calls = more ++ w.calls }
+-- ---- between two nodes
 
--- from R one comes to R' without a unit, having written what is new
-abbrev pub Moves : Runs → Runs → Option (List ℕ) → Option (List ℕ) → Type 0
-Moves R R' old new = (more : List HostCall) × (new ≡ appended old (output_of more)) × ((w : World) (g : ℕ) → R w g ≡ R' (with_calls w more) g)
+-- the script of a table
+abbrev pub script_in : Table → Script
+script_in t = record { body = stmts_in t.nodes t.body }
 
--- the state with a thrown error object
-abbrev pub raised : World → Text → Text → State
-raised w name message = record {
-  heap = add_cell (first_state []).heap (record { kind = Plain; link = Some object_prototype; own = (codes "name", Str name) ∷ (codes "message", Str message) ∷ [] });
-  records = add_frame (first_state []).records [];
-  world = counted w;
-}
-
-abbrev pub Threw : Runs → Text → Text → Option (List ℕ) → Option (List ℕ) → Type 0
-Threw R name message old new = (more : List HostCall) × (new ≡ appended old (output_of more)) × ((w : World) (g : ℕ) → R w g ≡ Throwing (Obj 6) (raised (with_calls w more) name message) g)
-
--- what is new is a front of what is written
-abbrev pub WroteFront : Runs → Option (List ℕ) → Option (List ℕ) → Type 0
-WroteFront R old new = (piece : List ℕ) × (new ≡ appended old piece) × ((w : World) (g : ℕ) → IsFront (output_of w.calls ++ piece) (output_of (world_of (R w g)).calls))
-
--- the machine stops so
-abbrev pub Halts : RunEnd → ℕ → Runs → Option (List ℕ) → Option (List ℕ) → Type 0
-Halts end.Finished cells R old new = ⊥
-Halts end.OutOfSteps cells R old new = ⊥
-Halts (end.Uncaught name message) cells R old new = (0 < cells) × Threw R name message old new
-Halts (end.Outside kind pos) cells R old new = (more : List HostCall) × (new ≡ appended old (output_of more)) × ((w : World) (g : ℕ) → R w g ≡ Left (kind_of kind) pos (ready (with_calls w more)) g)
-Halts end.CellsFull cells R old new = (cells ≡ 0) × (name : Text) × (message : Text) × Threw R name message old new
-Halts end.WriteFault cells R old new = WroteFront R old new
-Halts end.NoMemory cells R old new = WroteFront R old new
-
--- a throw ends the run
-abbrev pub Raises : Fault → ℕ → RunEnd → Type 0
-Raises f cells (end.Uncaught name message) = (0 < cells) × (name ≡ fault_name f) × (message ≡ fault_message f)
-Raises f cells end.CellsFull = cells ≡ 0
-Raises f cells end.NoMemory = Unit {0}
-Raises f cells end.Finished = ⊥
-Raises f cells end.OutOfSteps = ⊥
-Raises f cells (end.Outside kind pos) = ⊥
-Raises f cells end.WriteFault = ⊥
-
--- writing stopped
-abbrev pub StopsWriting : RunEnd → Type 0
-StopsWriting end.WriteFault = Unit {0}
-StopsWriting end.NoMemory = Unit {0}
-StopsWriting end.Finished = ⊥
-StopsWriting end.OutOfSteps = ⊥
-StopsWriting (end.Uncaught name message) = ⊥
-StopsWriting (end.Outside kind pos) = ⊥
-StopsWriting end.CellsFull = ⊥
-
--- frames wait only for an expression
-abbrev pub Rests : Option EsExpr → List Frame → Type 0
-Rests (Some e) fs = Unit {0}
-Rests None fs = fs ≡ []
-
--- an action was done: a value is given to what waits, or an expression begins
-abbrev pub Performed : Result (Option Value) RunEnd → ℕ → Runs → Option EsExpr → List Frame → List Frame → List EsStmt → Option (List ℕ) → Option (List ℕ) → Type 0
-Performed (Ok (Some v)) cells R next fs fs' ts old new = (fs' ≡ fs) × Moves R (giving v fs' ts) old new
-Performed (Ok None) cells R next fs fs' ts old new = Rests next fs' × Moves R (going next fs' ts) old new
-Performed (Err e) cells R next fs fs' ts old new = Halts e cells R old new
-
--- a step was done
-abbrev pub Stepped : Result (Unit {0}) RunEnd → ℕ → Runs → Option EsExpr → List Frame → List EsStmt → Option (List ℕ) → Option (List ℕ) → Type 0
-Stepped (Ok u) cells R next fs ts old new = Rests next fs × Moves R (going next fs ts) old new
-Stepped (Err e) cells R next fs ts old new = Halts e cells R old new
-
--- nothing is left to do
-abbrev pub IsOver : Option EsExpr → List EsStmt → Type 0
-IsOver next ts = (next ≡ None) × (ts ≡ [])
-
--- ---- the whole run
-
-abbrev pub script_run : Script → Text → ℕ → Outcome Completion
-script_run script input n = run (all (exec_to n) script.body global_scope) (first_state input) n
-
-abbrev pub world_with : Text → List HostCall → World
-world_with input calls = record { calls = calls; input = input; made = 0 }
-
--- after n steps the machine holds what the script has still to do
-pub record Holds (script : Script) (input : Text) (n : ℕ) (next : Option EsExpr) (fs : List Frame) (ts : List EsStmt) : Type 0 where
+-- Behind n nodes the run of the script with g units more is what comes of what is left to do with g units, over the state of the store.
+pub record Holds (t : Table) (input : Text) (cells n : ℕ) (store : Store) (ρ : Scope) (fs : List Frame) (next : Rest) : Type 0 where
   pub calls : List HostCall
-  pub tied : (g : ℕ) → script_run script input (n + g) ≡ going next fs ts (world_with input calls) g
-  pub rests : Rests next fs
+  pub tied : (g : ℕ) → outcome (script_in t) input (n + g) ≡ walk (ask g) g (rest_task t.nodes ρ fs next) (state_in t.nodes store calls)
+  pub sound : Sound store
+  pub limit : store.limit ≡ cells
 
-abbrev pub HoldsUnless : Option RunEnd → Script → Text → ℕ → Option EsExpr → List Frame → List EsStmt → Type 0
-HoldsUnless None script input n next fs ts = Holds script input n next fs ts
-HoldsUnless (Some e) script input n next fs ts = Unit {0}
+-- nothing is held behind an end
+abbrev pub HoldsUnless : Option RunEnd → Table → Text → ℕ → ℕ → Store → Scope → List Frame → Rest → Type 0
+HoldsUnless None t input cells n store ρ fs next = Holds t input cells n store ρ fs next
+HoldsUnless (Some last) t input cells n store ρ fs next = ⊤

@@ -2,12 +2,11 @@
 use Rattle.std.specs.Prelude.{◌≡◌, ◌⊎◌, ℕ, suc, ◌+◌, ◌<◌, ◌≤◌, List, ◌++◌, Option, Some, None}
 use Rattle.opal_base.specs.Outside.{Rose, appended}
 use Rattle.opal_base.specs.Shown.{Shown, Ended, Going}
-use Rattle.es5_tree.specs.declared.small.Script.{Script}
-use Rattle.es5_tree.specs.State.{Text}
-use Rattle.es5_tree.specs.Task.{OutKind, Number, Division, Conversion, Host}
-use Rattle.es5_tree.specs.Run.{EsEnd, Finished, Uncaught, Outside, es_run, cells_at}
-use Rattle.es5_machine.specs.declared.end.OutKind.{OutKind as Kind}
-use Rattle.es5_machine.specs.declared.end.OutKind.TheVariants as out
+use Rattle.es5_tree.specs.declared.tree.Script.{Script}
+use Rattle.es5_tree.specs.Values.{Text}
+use Rattle.es5_tree.specs.Ends.{EsEnd, Finished, Uncaught, Outside}
+use Rattle.es5_evaluation.specs.Run.{es_run, cells_at}
+use Rattle.es5_host.specs.Values.{out_of}
 use Rattle.es5_machine.specs.declared.end.RunEnd.{RunEnd}
 use Rattle.es5_machine.specs.declared.end.RunEnd.TheVariants as end
 
@@ -18,12 +17,6 @@ pub record Ran : Type 0 where
   pub cells : ℕ
   pub steps : ℕ
   pub ended : Option RunEnd
-
-abbrev pub kind_of : Kind → OutKind
-kind_of out.Number = Number
-kind_of out.Division = Division
-kind_of out.Conversion = Conversion
-kind_of out.Host = Host
 
 abbrev pub output : Shown EsEnd → List ℕ
 output (Ended bytes end) = bytes
@@ -69,7 +62,7 @@ pub record Fills (m : Ran) (n0 : ℕ) (old new : Option (List ℕ)) : Type 0 whe
 abbrev pub Tells : RunEnd → Ran → ℕ → Option (List ℕ) → Option (List ℕ) → Type 0
 Tells end.Finished m n0 old new = Ends m Finished × Pieces m n0 old new
 Tells (end.Uncaught name message) m n0 old new = Ends m (Uncaught name message) × Pieces m n0 old new
-Tells (end.Outside kind pos) m n0 old new = Ends m (Outside (kind_of kind) pos) × Pieces m n0 old new
+Tells (end.Outside kind pos) m n0 old new = Ends m (Outside (out_of kind) pos) × Pieces m n0 old new
 Tells end.OutOfSteps m n0 old new = GoesOn m × Pieces m n0 old new
 Tells end.CellsFull m n0 old new = Fills m n0 old new
 Tells end.WriteFault m n0 old new = FrontPieces m n0 old new

@@ -1,84 +1,106 @@
-//! Ends and their texts.
+//! How the machine tells the end of a script, and keeps it.
 
-ghost use Rattle.std.specs.Prelude.{◌≡◌, ◌++◌, Some, IfOk};
-ghost use Rattle.es5_machine.specs.Progress.{Raises};
-ghost use Rattle.es5_machine.specs.Meaning.{fault_name, fault_message};
+ghost use Rattle.std.specs.Prelude.{◌≡◌, ◌<◌, length, Some, IfOk};
+ghost use Rattle.es5_tree.specs.Ends.{text_or};
+ghost use Rattle.es5_tree.specs.Objects.Cells.{own};
+ghost use Rattle.es5_tree.specs.Objects.Links.{cell_at};
+ghost use Rattle.es5_objects.specs.Values.{value_of};
+ghost use Rattle.es5_evaluation.specs.Run.{thrown};
+ghost use Rattle.es5_machine.specs.Progress.{IsNode, IsTold, end_in, end_of_halt as halt_end};
 ghost use Rattle.es5_machine.specs.Run.{IsAgain};
 
 use crate::end::RunEnd;
-use crate::work::Fault;
+use es5_execution::Rest;
+use es5_objects::{EsValue, ObjHeap};
+use es5_pending::{Begins, Completion};
+use es5_store::Halt;
+use es5_tree::word_units;
 use opal_base::{NoMemory, Units};
 use std::alloc::Global;
 
-/// `ReferenceError`
-const REFERENCE_ERROR: [u16; 14] = [
-    82, 101, 102, 101, 114, 101, 110, 99, 101, 69, 114, 114, 111, 114,
-];
-
-/// `TypeError`
-const TYPE_ERROR: [u16; 9] = [84, 121, 112, 101, 69, 114, 114, 111, 114];
-
-/// `not defined: `
-const NOT_DEFINED: [u16; 13] = [110, 111, 116, 32, 100, 101, 102, 105, 110, 101, 100, 58, 32];
-
-/// `no properties`
-const NO_PROPERTIES: [u16; 13] = [
-    110, 111, 32, 112, 114, 111, 112, 101, 114, 116, 105, 101, 115,
-];
-
-/// `not a function`
-const NOT_A_FUNCTION: [u16; 14] = [
-    110, 111, 116, 32, 97, 32, 102, 117, 110, 99, 116, 105, 111, 110,
-];
-
-/// The end of a script that throws an error: it makes the error object, and nothing catches it.
-pub fn uncaught(alloc: Global, fault: &Fault, cells: u32) -> RunEnd
-    ensures { Raises fault.now cells result }
+// The text that an object has as its own property of this name, or another one where it has none.
+fn own_text(
+    alloc: Global,
+    heap: &ObjHeap,
+    o: u32,
+    name: &[u8],
+    other: &[u8],
+) -> Result<Units, NoMemory>
+    requires { o < length heap.now.cells }
+    ensures { IfOk result (λ text. text ≡ text_or other.now (own (cell_at heap.now.cells o) name.now)) }
 {
-    if cells == 0 {
-        return RunEnd::CellsFull;
-    }
-    let name = match name_of(alloc, fault) {
-        Ok(name) => name,
-        Err(_) => return RunEnd::NoMemory,
-    };
-    match message_of(alloc, fault) {
-        Ok(message) => RunEnd::Uncaught { name, message },
-        Err(_) => RunEnd::NoMemory,
+    let name = word_units(alloc, name)?;
+    match heap.own(o, &name) {
+        Some(EsValue::Str(text)) => text.units().try_clone(),
+        _ => word_units(alloc, other),
     }
 }
 
-fn name_of(alloc: Global, fault: &Fault) -> Result<Units, NoMemory>
-    ensures { IfOk result (λ name. name ≡ fault_name fault.now) }
+// How a throw of an object that nothing caught is told.
+fn uncaught_object(alloc: Global, heap: &ObjHeap, o: u32) -> Result<RunEnd, NoMemory>
+    requires { o < length heap.now.cells }
+    ensures { IfOk result (IsTold (Some (thrown heap.now.cells (value_of (EsValue.Obj o))))) }
 {
-    match fault {
-        Fault::NotDefined(_) => text(alloc, &REFERENCE_ERROR, &[]),
-        Fault::NoProperties => text(alloc, &TYPE_ERROR, &[]),
-        Fault::NoFunction => text(alloc, &TYPE_ERROR, &[]),
+    let name = own_text(alloc, heap, o, b"name", b"Error")?;
+    let message = own_text(alloc, heap, o, b"message", b"")?;
+    Ok(RunEnd::Uncaught { name, message })
+}
+
+// How a throw that nothing caught is told.
+fn uncaught(alloc: Global, heap: &ObjHeap, value: &EsValue) -> Result<RunEnd, NoMemory>
+    ensures { IfOk result (IsTold (Some (thrown heap.now.cells (value_of value.now)))) }
+{
+    match value {
+        EsValue::Obj(o) => {
+            if *o < heap.len() {
+                uncaught_object(alloc, heap, *o)
+            } else {
+                Err(NoMemory)
+            }
+        }
+        _ => Ok(RunEnd::Uncaught {
+            name: word_units(alloc, b"Error")?,
+            message: Units::new(alloc),
+        }),
     }
 }
 
-fn message_of(alloc: Global, fault: &Fault) -> Result<Units, NoMemory>
-    ensures { IfOk result (λ message. message ≡ fault_message fault.now) }
+/// How the end of a script is told, where no node begins any more.
+pub fn end_of(alloc: Global, rest: &Rest, heap: &ObjHeap) -> RunEnd
+    ensures { IsTold (end_in rest.now heap.now.cells) result }
 {
-    match fault {
-        Fault::NotDefined(name) => text(alloc, &NOT_DEFINED, name.as_slice()),
-        Fault::NoProperties => text(alloc, &NO_PROPERTIES, &[]),
-        Fault::NoFunction => text(alloc, &NOT_A_FUNCTION, &[]),
+    match rest {
+        Rest::Begins(_) => RunEnd::OutOfSteps,
+        Rest::Ended(Completion::Throw(value)) => match uncaught(alloc, heap, value) {
+            Ok(end) => end,
+            Err(_) => RunEnd::NoMemory,
+        },
+        Rest::Ended(_) => RunEnd::Finished,
+        Rest::Left(kind, pos) => RunEnd::Outside {
+            kind: *kind,
+            pos: *pos,
+        },
     }
 }
 
-/// Two texts as one.
-fn text(alloc: Global, front: &[u16], rest: &[u16]) -> Result<Units, NoMemory>
-    ensures { IfOk result (λ text. text ≡ front.now ++ rest.now) }
+/// How the stop of a run is told.
+pub fn end_of_halt(halt: Halt) -> RunEnd
+    ensures { result ≡ halt_end halt }
 {
-    let mut units = match Vec::from_slice(alloc, front) {
-        Ok(units) => units,
-        Err(_) => return Err(NoMemory),
-    };
-    match units.extend_from_slice(rest) {
-        Ok(()) => Ok(Units::from_vec(units)),
-        Err(_) => Err(NoMemory),
+    match halt {
+        Halt::CellsFull => RunEnd::CellsFull,
+        Halt::WriteFault => RunEnd::WriteFault,
+        Halt::NoMemory => RunEnd::NoMemory,
+    }
+}
+
+/// The node that begins next, if one does.
+pub fn node_in(rest: &Rest) -> Option<Begins>
+    ensures { IsNode rest.now result }
+{
+    match rest {
+        Rest::Begins(begins) => Some(*begins),
+        _ => None,
     }
 }
 

@@ -1,16 +1,12 @@
 //! The bounded machine that runs scripts of the ECMAScript profile.
 #![tactic(auto)]
 
-mod copy;
 mod end;
 mod ending;
 mod machine;
-mod pending;
-mod plan;
+mod start;
 #[cfg(test)]
 mod tests;
-mod value;
-mod work;
 
-pub use end::{OutKind, RunEnd};
+pub use end::RunEnd;
 pub use machine::Machine;

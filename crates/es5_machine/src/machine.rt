@@ -1,47 +1,53 @@
 ghost use Rattle.std.specs.Prelude.{◌≡◌, ◌+◌, ◌≤◌, IfOk, IfSome, None};
 ghost use Rattle.es5_machine.specs.Run.{Caused, HasRun, IsAgain, Keeps, Tells, started};
 
-use crate::copy::copy_reversed;
 use crate::end::RunEnd;
-use crate::ending::{again, keep};
-use crate::pending::Pending;
-use es5_tree::small::Script;
+use crate::ending::{again, end_of, end_of_halt, keep, node_in};
+use crate::start::{first_rest, first_store};
+use es5_code::{NodeTable, number};
+use es5_execution::{Pending, Rest};
+use es5_store::Store;
+use es5_tree::Script;
 use opal_base::{NoMemory, Sink, Units};
-use sqlite_items::Items;
 use std::alloc::Global;
 use std::marker::Model;
 
 /// A machine that runs a script step by step. A step is the beginning of the evaluation of one
-/// statement or expression (ECMA-262 5.1, sections 11 and 12); a cell is an object that the script
-/// makes.
+/// statement or expression (ECMA-262 5.1, sections 11 and 12), or of the test of a loop; a cell is an
+/// object or an activation record that the script makes.
 #[derive(Drop)]
 pub struct Machine {
-    script: Script,
+    table: NodeTable,
     input: Units,
     cells: u32,
     steps: u64,
+    store: Store,
     pending: Pending,
+    next: Rest,
     ended: Option<RunEnd>,
     alloc: Global,
 }
 
 impl Model for Machine {
+    ghost use Rattle.es5_execution.specs.Scopes.{scope_of};
     ghost use Rattle.es5_machine.specs.Run.{Ran};
-    ghost use Rattle.es5_machine.specs.Progress.{HoldsUnless};
-    ghost use Rattle.es5_tree.specs.contracts.small.EsKind as form;
+    ghost use Rattle.es5_tree.specs.contracts.tree.EsKind as kind;
+    ghost use Rattle.es5_tree.specs.contracts.tree.EsStmt as stmt;
     ghost use Rattle.std.specs.Coded.{codes};
+    ghost use Rattle.es5_machine.specs.Progress.{HoldsUnless, script_in};
 
     ghost Value = { Ran };
 
-    ghost coded = { Prim.hlevel (codes, form.the_row.coded) };
+    ghost coded = { Prim.hlevel (codes, stmt.the_row.coded, kind.the_row.coded) };
 
-    ghost view = { λ m. record { script = m.script; input = m.input; cells = m.cells; steps = m.steps; ended = m.ended } };
+    ghost view = { λ m. record { script = script_in m.table; input = m.input; cells = m.cells; steps = m.steps; ended = m.ended } };
 
-    ghost invariant = { λ m. HoldsUnless m.ended m.script m.input m.steps m.pending.next m.pending.frames m.pending.statements };
+    ghost invariant = { λ m. HoldsUnless m.ended m.table m.input m.cells m.steps m.store (scope_of m.pending.scope) m.pending.stack m.next };
 }
 
 impl Machine {
-    /// A machine before the first step of the script, which may make so many cells.
+    /// A machine before the first step of the script, which may make so many cells. They are
+    /// reserved here.
     pub fn start(
         alloc: Global,
         script: Script,
@@ -50,21 +56,18 @@ impl Machine {
     ) -> Result<Machine, NoMemory>
         ensures { IfOk result (λ machine. machine ≡ started script input cells) }
     {
-        let statements = match copy_reversed(alloc, &script.body) {
-            Ok(statements) => statements,
-            Err(_) => return Err(NoMemory),
-        };
-        let pending = Pending {
-            next: None,
-            frames: Items::new(alloc),
-            statements,
-        };
+        let table = number(alloc, script)?;
+        let lines = input.try_clone()?;
+        let store = first_store(alloc, &table, lines, cells)?;
+        let (pending, next) = first_rest(alloc, &table)?;
         Ok(Machine {
-            script,
+            table,
             input,
             cells,
             steps: 0,
+            store,
             pending,
+            next,
             ended: None,
             alloc,
         })
@@ -94,18 +97,28 @@ impl Machine {
             return again(last);
         }
         for _ in 0..steps {
-            if self.pending.is_over() {
-                return keep(&mut self.ended, RunEnd::Finished);
-            }
+            let begins = match node_in(&self.next) {
+                Some(begins) => begins,
+                None => {
+                    let end = end_of(self.alloc, &self.next, &self.store.heap);
+                    return keep(&mut self.ended, end);
+                }
+            };
             self.steps += 1;
-            match self.pending.step(self.alloc, self.cells, sink) {
-                Ok(()) => {}
-                Err(end) => return keep(&mut self.ended, end),
+            match self
+                .pending
+                .begin(self.alloc, &self.table, &mut self.store, begins, sink)
+            {
+                Ok(next) => self.next = next,
+                Err(halt) => return keep(&mut self.ended, end_of_halt(halt)),
             }
         }
-        if self.pending.is_over() {
-            return keep(&mut self.ended, RunEnd::Finished);
+        match node_in(&self.next) {
+            Some(_) => RunEnd::OutOfSteps,
+            None => {
+                let end = end_of(self.alloc, &self.next, &self.store.heap);
+                keep(&mut self.ended, end)
+            }
         }
-        RunEnd::OutOfSteps
     }
 }

@@ -1,5 +1,6 @@
 use super::*;
-use es5_tree::small::{EsExpr, EsKind, EsStmt, Script};
+use es5_host::OutKind;
+use es5_tree::{EsExpr, EsKind, EsStmt, Script};
 use opal_base::{MemSink, NoMemory, Pos, Units, units_to_utf8, utf8_to_units};
 use sqlite_items::{Boxed, Items};
 use std::alloc::Global;
@@ -10,12 +11,13 @@ fn text(alloc: Global, text: &str) -> Result<Units, Fail> {
     Ok(utf8_to_units(alloc, text.as_bytes())?)
 }
 
+const PLACE: Pos = Pos { line: 2, col: 3 };
+
 fn expr(alloc: Global, kind: EsKind) -> Result<EsExpr, Fail> {
-    let pos = Pos { line: 2, col: 3 };
     Ok(EsExpr {
         kind: Boxed::new(alloc, kind)?,
         origin: None,
-        pos,
+        pos: PLACE,
     })
 }
 
@@ -32,7 +34,7 @@ fn call(alloc: Global, callee: EsExpr, argument: EsExpr) -> Result<EsStmt, Fail>
 
 // `$host.write(TEXT);`
 fn write(alloc: Global, written: &str) -> Result<EsStmt, Fail> {
-    let callee = EsKind::Member(name(alloc, "$host")?, text(alloc, "write")?);
+    let callee = EsKind::Member(name(alloc, "$host")?, text(alloc, "write")?, PLACE);
     let argument = expr(alloc, EsKind::Str(text(alloc, written)?))?;
     call(alloc, expr(alloc, callee)?, argument)
 }
@@ -196,7 +198,7 @@ fn what_is_no_function_is_thrown(rt: HostRuntime) -> Result<(), Fail> {
 #[test]
 fn other_arguments_leave_the_profile(rt: HostRuntime) -> Result<(), Fail> {
     let alloc = rt.alloc();
-    let callee = EsKind::Member(name(alloc, "$host")?, text(alloc, "write")?);
+    let callee = EsKind::Member(name(alloc, "$host")?, text(alloc, "write")?, PLACE);
     let line = traced_call(alloc, expr(alloc, callee)?, 0)?;
     assert_eq!(rt; line.as_slice(), b"host 2:3 [], host 2:3 [], 5".as_slice());
     Ok(())

@@ -4,7 +4,7 @@ use Rattle.std.proofs.lemmas.List.{length-append, length-map}
 use Rattle.std.proofs.lemmas.Option.{slice_get_past, slice_get-get_or}
 use Rattle.std.proofs.Math.Seq.{drop-append_seam}
 use Rattle.std.proofs.lemmas.Bool.{cases_lt}
-use Rattle.es5_tree.specs.State.{Text, Val, Undefined, Obj}
+use Rattle.es5_tree.specs.Values.{Text, Val, Undefined, Obj}
 use Rattle.es5_evaluation.specs.State.{Activation, Code}
 use Rattle.es5_evaluation.specs.Values.{or_undefined}
 use Rattle.es5_evaluation.specs.Declared.{arguments_name, locals, own_code}

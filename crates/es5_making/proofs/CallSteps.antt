@@ -3,7 +3,7 @@ use Rattle.std.proofs.Common.{◌≡◌, ℕ, ◌<◌, Bool, true, false, List, 
 use Rattle.std.proofs.lemmas.List.{get_or-map}
 use Rattle.std.proofs.lemmas.Option.{get_or_from_slice_get, slice_get_within}
 use Rattle.es5_tree.specs.declared.tree.EsStmt.{EsStmt}
-use Rattle.es5_tree.specs.State.{Val, Obj}
+use Rattle.es5_tree.specs.Values.{Val, Obj}
 use Rattle.es5_evaluation.specs.State.{Activation, Code, code_at}
 use Rattle.es5_evaluation.specs.Task.{Scope, Task, ◌>>=◌}
 use Rattle.es5_evaluation.specs.Declared.{arguments_name, own_code}

@@ -4,7 +4,7 @@ use Rattle.std.specs.List.{All}
 use Rattle.std.proofs.lemmas.List.{map-append, take_more, take_all, length-map, get_or-map}
 use Rattle.std.proofs.lemmas.List.Elements.{All-push, All-nil, All-cons, All-head, All-tail}
 use Rattle.std.proofs.lemmas.Option.{get_or_from_slice_get}
-use Rattle.es5_tree.specs.State.{Val}
+use Rattle.es5_tree.specs.Values.{Val}
 use Rattle.es5_tree.specs.Intrinsics.Valid.{Names, NamesIf}
 use Rattle.es5_objects.specs.declared.value.EsValue.{EsValue}
 use Rattle.es5_objects.specs.Values.{value_if}

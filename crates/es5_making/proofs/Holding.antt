@@ -4,7 +4,7 @@ use Rattle.std.specs.List.{All}
 use Rattle.std.proofs.lemmas.Bool.{cases_lt}
 use Rattle.std.proofs.lemmas.List.{drop_more}
 use Rattle.std.proofs.lemmas.Option.{get_or_from_slice_get}
-use Rattle.es5_tree.specs.State.{Text, Val, Num}
+use Rattle.es5_tree.specs.Values.{Text, Val, Num}
 use Rattle.es5_tree.specs.Objects.Cells.{Cell, Arguments, new_cell, put}
 use Rattle.es5_tree.specs.Objects.Links.{cell_at}
 use Rattle.es5_tree.specs.Objects.Names.{length_name}

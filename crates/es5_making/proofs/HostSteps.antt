@@ -5,7 +5,7 @@ use Rattle.opal_base.specs.declared.place.Pos.{Pos}
 use Rattle.opal_base.specs.Outside.{Rose, TookFront, appended}
 use Rattle.opal_base.specs.Shown.{HostCall, Wrote, output_of}
 use Rattle.opal_base.specs.Text.{utf8_of}
-use Rattle.es5_tree.specs.State.{Text, Val, Undefined, Obj}
+use Rattle.es5_tree.specs.Values.{Text, Val, Undefined, Obj}
 use Rattle.es5_tree.specs.Objects.Cells.{Cell}
 use Rattle.es5_tree.specs.Objects.Links.{set_cell}
 use Rattle.es5_tree.specs.Intrinsics.Lines.{Reading, advanced}

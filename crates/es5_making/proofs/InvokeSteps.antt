@@ -4,8 +4,8 @@ use Rattle.std.specs.Bool.{⊤}
 use Rattle.opal_base.specs.declared.place.Pos.{Pos}
 use Rattle.opal_base.specs.Outside.{Rose}
 use Rattle.opal_base.specs.Shown.{HostCall}
-use Rattle.es5_tree.specs.State.{Val, Undefined, Null, Truth, Num, Str, Obj}
-use Rattle.es5_tree.specs.Task.{Host}
+use Rattle.es5_tree.specs.Values.{Val, Undefined, Null, Truth, Num, Str, Obj}
+use Rattle.es5_tree.specs.Ends.{Host}
 use Rattle.es5_tree.specs.Objects.Cells.{Kind}
 use Rattle.es5_tree.specs.Objects.Cells as kind
 use Rattle.es5_tree.specs.Objects.Links.{cell_at}

@@ -1,7 +1,7 @@
 -- New functions, step by step.
 use Rattle.std.proofs.Common.{◌≡◌, ℕ, List, [], ◌∷◌, ◌++◌, length, map, Some, refl, sym, ap, ◌∙◌}
 use Rattle.std.proofs.lemmas.List.{map-append, length-map}
-use Rattle.es5_tree.specs.State.{Obj}
+use Rattle.es5_tree.specs.Values.{Obj}
 use Rattle.es5_tree.specs.Objects.Cells.{Cell, Function, new_cell}
 use Rattle.es5_tree.specs.Intrinsics.Made.{function_prototype}
 use Rattle.es5_evaluation.specs.Task.{Normal, Task, Make, walk, ◌>>=◌, with_code}

@@ -1,6 +1,6 @@
 -- New objects, step by step.
 use Rattle.std.proofs.Common.{◌≡◌, ℕ, ◌<◌, ◌≤◌, List, [], ◌∷◌, ◌++◌, length, map, Some, refl, sym, ap, ◌∙◌}
-use Rattle.es5_tree.specs.State.{Text, Val, Obj}
+use Rattle.es5_tree.specs.Values.{Text, Val, Obj}
 use Rattle.es5_tree.specs.Objects.Cells.{Cell, Object, new_cell}
 use Rattle.es5_tree.specs.Intrinsics.Made.{object_prototype}
 use Rattle.es5_tree.specs.Intrinsics.Rows.{array_of}

@@ -1,7 +1,7 @@
 -- New activation records, step by step.
 use Rattle.std.proofs.Common.{◌≡◌, ℕ, List, [], ◌∷◌, ◌++◌, length, map, Some, refl, sym, ap, ◌∙◌, subst}
 use Rattle.std.proofs.lemmas.List.{map-append, length-map}
-use Rattle.es5_tree.specs.State.{Text, Val}
+use Rattle.es5_tree.specs.Values.{Text, Val}
 use Rattle.es5_tree.specs.declared.tree.Catch.{Catch, Catch-F, out-Catch, roll-Catch, out-roll-Catch}
 use Rattle.es5_tree.specs.declared.tree.EsExpr.{EsExpr}
 use Rattle.es5_tree.specs.declared.tree.EsKind.{EsKind}

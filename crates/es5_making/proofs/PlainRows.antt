@@ -1,7 +1,7 @@
 -- Rows of functions that neither write nor read.
 use Rattle.std.proofs.Common.{◌≡◌, ℕ, List, [], ◌∷◌, Bool, true, false, Option, Some, None, ◌&&◌, nat_le, nat_lt, length}
 use Rattle.std.specs.Bool.{⊤}
-use Rattle.es5_tree.specs.State.{Val, Undefined, Null, Truth, Num, Str, Obj}
+use Rattle.es5_tree.specs.Values.{Val, Undefined, Null, Truth, Num, Str, Obj}
 use Rattle.es5_tree.specs.Objects.Cells.{Cell}
 use Rattle.es5_tree.specs.Objects.Links.{cell_at, in_chain}
 use Rattle.es5_tree.specs.Intrinsics.Calls.{HostFn}

@@ -1,6 +1,6 @@
 -- Parts of the record of a call (ECMA-262 5.1, section 10.5).
 use Rattle.std.specs.Prelude.{ℕ, List, [], ◌∷◌, slice_get, Option, None, Some}
-use Rattle.es5_tree.specs.State.{Text, Val, Obj}
+use Rattle.es5_tree.specs.Values.{Text, Val, Obj}
 use Rattle.es5_evaluation.specs.Declared.{arguments_name}
 use Rattle.es5_evaluation.specs.Values.{or_undefined}
 

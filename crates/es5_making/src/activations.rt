@@ -62,8 +62,8 @@ fn bind_arguments(
     }
 }
 
-// Puts the names from an index on at the end, without values.
-fn declare(bindings: &mut Bindings, names: &Names, from: usize) -> Result<(), NoMemory>
+/// Puts the names from an index on at the end, without values (10.5).
+pub fn declare(bindings: &mut Bindings, names: &Names, from: usize) -> Result<(), NoMemory>
     ensures { OnOk result (bindings.new ≡ bindings.old ++ undefined_variables (drop from names.now)) }
 {
     for i in from..names.len() {

@@ -1,7 +1,7 @@
 //! The arguments objects of calls (ECMA-262 5.1, section 10.6).
 
 ghost use Rattle.std.specs.Prelude.{◌≡◌, ◌<◌, length, pos, IfOk, OnOk};
-ghost use Rattle.es5_tree.specs.State.{Num};
+ghost use Rattle.es5_tree.specs.Values.{Num};
 ghost use Rattle.es5_tree.specs.Objects.Cells.{Arguments, put};
 ghost use Rattle.es5_tree.specs.Objects.Links.{cell_at};
 ghost use Rattle.es5_tree.specs.Objects.Names.{length_name};

@@ -1,7 +1,7 @@
 //! Calls of functions (ECMA-262 5.1, sections 11.2.3, 13.2.1, 15.3.4.3 and 15.3.4.4).
 
 ghost use Rattle.std.specs.Prelude.{◌≡◌, ◌↔◌, ℕ, ◌+◌, ◌<◌, ◌≤◌, List, length, slice_get, IfErr, IsTrue, OnOk};
-ghost use Rattle.es5_tree.specs.State.{Obj};
+ghost use Rattle.es5_tree.specs.Values.{Obj};
 ghost use Rattle.es5_tree.specs.Intrinsics.Rows.{row};
 ghost use Rattle.es5_evaluation.specs.Run.{at_first};
 ghost use Rattle.es5_evaluation.specs.Task.{Scope};

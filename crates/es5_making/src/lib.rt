@@ -13,6 +13,7 @@ mod records;
 #[cfg(test)]
 mod tests;
 
+pub use activations::declare;
 pub use arrays::make_array;
 pub use calls::enter;
 pub use functions::make_function;

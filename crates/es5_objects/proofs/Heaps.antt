@@ -2,7 +2,7 @@
 use Rattle.std.proofs.Common.{◌≡◌, ℕ, zero, suc, ◌+◌, ◌-◌, ◌<◌, ◌≤◌, Bool, true, false, ◌||◌, if◌then◌else◌, eqb, List, [], ◌∷◌, ◌++◌, length, get_or, set, Option, Some, None, refl, sym, ap, subst, ◌∙◌, arith, length-append, length-set, eq-eqb, ne_eqb, Result, Ok, Err, OnOk, OnErr}
 use Rattle.std.specs.List.{list_any}
 use Rattle.std.proofs.lemmas.List.{get_or_default}
-use Rattle.es5_tree.specs.State.{Text, Val, first}
+use Rattle.es5_tree.specs.Values.{Text, Val, first}
 use Rattle.es5_tree.specs.Objects.Cells.{Cell, Object, new_cell, own, put, delete, with_length, with_value, is_array_length, whole}
 use Rattle.es5_tree.specs.Objects.Links.{cell_at, link_at, first_of_chain, chain, first_own, get, in_chain, Within, LinksWithin, NoCycle, after}
 use Rattle.es5_objects.specs.Heap.{Heap, with_cell}

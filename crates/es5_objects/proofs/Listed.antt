@@ -1,6 +1,6 @@
 -- The steps of the loops that list names.
 use Rattle.std.proofs.Common.{◌≡◌, ℕ, List, [], ◌∷◌, ◌++◌, refl, sym, Some, None, true, false, append_assoc}
-use Rattle.es5_tree.specs.State.{Text, Val}
+use Rattle.es5_tree.specs.Values.{Text, Val}
 use Rattle.es5_tree.specs.Objects.Names.{index_of}
 use Rattle.es5_tree.specs.Objects.Cells.{Kind, indices, other_names, is_other_name}
 

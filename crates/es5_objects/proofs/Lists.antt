@@ -2,7 +2,7 @@
 use Rattle.std.proofs.Common.{◌≡◌, ℕ, zero, suc, ◌<◌, ◌≤◌, Bool, true, false, not, cond, ◌⊎◌, inl, inr, ⊎_elim, List, [], ◌∷◌, ◌++◌, length, get_or, set, filter, position, refl, sym, ap, ◌∙◌, arith, bytes_eq, nat_lt, ltb-false, Some, None, Result, Ok, Err, OnOk, OnErr}
 use Rattle.std.specs.List.{position_or_len}
 use Rattle.std.proofs.lemmas.List.Sums.{prefix_len_passes}
-use Rattle.es5_tree.specs.State.{Text, Val, find_own}
+use Rattle.es5_tree.specs.Values.{Text, Val, find_own}
 use Rattle.es5_tree.specs.Objects.Cells.{with_property, without_property, elements_below, stays_below}
 use Rattle.es5_tree.specs.Objects.Names.{index_of}
 use Rattle.es5_objects.specs.declared.value.EsValue.{EsValue}

@@ -1,6 +1,6 @@
 -- A list of own properties as the pairs of their names and values.
 use Rattle.std.specs.Prelude.{List, map}
-use Rattle.es5_tree.specs.State.{Text, Val}
+use Rattle.es5_tree.specs.Values.{Text, Val}
 use Rattle.es5_objects.specs.declared.properties.Property.{Property}
 use Rattle.es5_objects.specs.Values.{value_of}
 

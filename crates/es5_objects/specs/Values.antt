@@ -1,7 +1,7 @@
 -- What the types of this crate stand for.
 use Rattle.std.specs.Prelude.{Option, Some, None}
-use Rattle.es5_tree.specs.State.{Val}
-use Rattle.es5_tree.specs.State as val
+use Rattle.es5_tree.specs.Values.{Val}
+use Rattle.es5_tree.specs.Values as val
 use Rattle.es5_tree.specs.Objects.Cells.{Kind}
 use Rattle.es5_tree.specs.Objects.Cells as kind
 use Rattle.es5_objects.specs.declared.value.EsValue.{EsValue}

@@ -1,5 +1,5 @@
 ghost use Rattle.std.specs.Prelude.{◌≡◌, ◌<◌, pos, IfSome};
-ghost use Rattle.es5_tree.specs.State.{Num};
+ghost use Rattle.es5_tree.specs.Values.{Num};
 ghost use Rattle.es5_tree.specs.Objects.Names.{index_end};
 ghost use Rattle.es5_tree.specs.Objects.Cells.{IsLength, whole, length_past};
 ghost use Rattle.es5_objects.specs.Values.{value_of};

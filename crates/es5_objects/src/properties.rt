@@ -1,7 +1,7 @@
 ghost use Rattle.std.specs.Prelude.{◌≡◌, [], bytes_eq, OnOk, OnErr};
 ghost use Rattle.std.specs.List.{position};
 ghost use Rattle.std.specs.Option.{option_copied};
-ghost use Rattle.es5_tree.specs.State.{find_own};
+ghost use Rattle.es5_tree.specs.Values.{find_own};
 ghost use Rattle.es5_tree.specs.Objects.Cells.{with_property, without_property, elements_below, stays_below};
 ghost use Rattle.es5_tree.specs.Objects.Names.{index_of};
 ghost use Rattle.es5_objects.specs.Values.{value_of, value_if};
@@ -29,7 +29,7 @@ pub struct Properties {
 
 impl Model for Properties {
     ghost use Rattle.std.specs.Prelude.{List};
-    ghost use Rattle.es5_tree.specs.State.{Text, Val};
+    ghost use Rattle.es5_tree.specs.Values.{Text, Val};
 
     ghost Value = { List (Text × Val) };
 

@@ -1,7 +1,7 @@
 //! What values are called (ECMA-262 5.1, section 11.4.3).
 
 ghost use Rattle.std.specs.Prelude.{◌≡◌, IfOk};
-ghost use Rattle.es5_tree.specs.State.{Obj};
+ghost use Rattle.es5_tree.specs.Values.{Obj};
 ghost use Rattle.es5_evaluation.specs.Values.{kind_name, type_name};
 ghost use Rattle.es5_objects.specs.Values.{kind_of, value_of};
 

@@ -2,7 +2,7 @@
 
 ghost use Rattle.std.specs.Prelude.{◌≡◌, ◌≤ℤ◌, ◌+ℤ◌, ◌-ℤ◌, ◌*ℤ◌, neg_ℤ, int_div, int_rem, int_lt, int_le, ◌≢◌, pos};
 ghost use Rattle.std.specs.Ordering.{int_eq};
-ghost use Rattle.es5_tree.specs.State.{Num};
+ghost use Rattle.es5_tree.specs.Values.{Num};
 ghost use Rattle.es5_evaluation.specs.Values.{in_range, negated, quotient, remainder};
 ghost use Rattle.es5_objects.specs.Values.{value_of};
 ghost use Rattle.es5_operators.specs.Operated.{result_of};

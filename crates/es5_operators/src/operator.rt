@@ -1,8 +1,8 @@
 //! Operators with two values (ECMA-262 5.1, sections 11.5 to 11.9).
 
 ghost use Rattle.std.specs.Prelude.{◌≡◌, IfOk};
-ghost use Rattle.es5_tree.specs.State.{Truth};
-ghost use Rattle.es5_tree.specs.Task.{Conversion};
+ghost use Rattle.es5_tree.specs.Values.{Truth};
+ghost use Rattle.es5_tree.specs.Ends.{Conversion};
 ghost use Rattle.es5_tree.specs.declared.tree.Operator.TheVariants as Operator;
 ghost use Rattle.es5_evaluation.specs.Values.{Is, Out, binary, sum};
 ghost use Rattle.es5_objects.specs.Values.{value_of};

@@ -1,7 +1,7 @@
 //! Keys, and the properties of primitives (ECMA-262 5.1, sections 8.7.1, 9.8 and 15.5.5).
 
 ghost use Rattle.std.specs.Prelude.{◌≡◌, IfOk, length, pos};
-ghost use Rattle.es5_tree.specs.State.{Num};
+ghost use Rattle.es5_tree.specs.Values.{Num};
 ghost use Rattle.es5_evaluation.specs.Values.{holder_of, key_of, own_of_primitive, unit_at};
 ghost use Rattle.es5_objects.specs.Values.{value_of, value_if};
 

@@ -14,7 +14,7 @@ use Rattle.es5_tree.specs.declared.token.EsTokenKind.{EsTokenKind}
 use Rattle.es5_tree.specs.declared.token.EsTokenKind.TheVariants as kind
 use Rattle.es5_tree.specs.declared.tree.EsStmt.{EsStmt}
 use Rattle.es5_tree.specs.Depth.{script_depth, stmt_depth}
-use Rattle.es5_tree.specs.Spells.{IsEnded}
+use Rattle.es5_tree.specs.Lexed.{IsEnded}
 use Rattle.es5_tree.specs.Grammar.Names.{script, statement}
 use Rattle.es5_tree.specs.Grammar.Nodes.{Node, depth, stmts}
 use Rattle.es5_tree.specs.Grammar.Nodes as node

@@ -1,5 +1,4 @@
-//! Scripts from their tokens (ECMA-262 5.1, sections 11 to 14): today's scripts, and those of the whole
-//! language.
+//! Scripts from their tokens (ECMA-262 5.1, sections 11 to 14).
 #![tactic(auto)]
 
 mod access;
@@ -13,7 +12,6 @@ mod levels;
 mod names;
 mod object;
 mod operators;
-mod parse;
 mod primary;
 mod read;
 mod script;
@@ -21,9 +19,6 @@ mod script;
 mod shapes;
 mod statements;
 #[cfg(test)]
-mod tests;
-#[cfg(test)]
 mod whole_tests;
 
-pub use parse::{es_parse, read_script};
-pub use script::{parse_script, read_whole_script};
+pub use script::{parse_script, read_script};

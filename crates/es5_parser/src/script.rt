@@ -2,8 +2,7 @@
 
 ghost use Rattle.std.specs.Prelude.{◌≡◌, ◌<◌, ◌^◌, ◌≤◌, length, IfOk, IfErr};
 ghost use Rattle.es5_tree.specs.Depth.{script_depth};
-ghost use Rattle.es5_tree.specs.Lexed.{StopsAt};
-ghost use Rattle.es5_tree.specs.Spells.{IsEnded};
+ghost use Rattle.es5_tree.specs.Lexed.{StopsAt, IsEnded};
 ghost use Rattle.es5_tree.specs.Grammar.Spelling.{before_end, limit, IsNotScript, NoFrontPos, Reads, SpellsInLimit};
 
 use crate::read::{Halt, read_list};
@@ -46,7 +45,7 @@ pub fn parse_script(alloc: Global, tokens: &EsTokens) -> Result<Script, EsStop>
 /// expression at the place of its first token; or else the place, counted from 0, of the first byte
 /// at which a token, blank or comment would have to begin and none does, and where there is none, of
 /// the first token such that the tokens up to and with it are no front of such a script.
-pub fn read_whole_script(alloc: Global, bytes: &[u8]) -> Result<Script, EsStop>
+pub fn read_script(alloc: Global, bytes: &[u8]) -> Result<Script, EsStop>
     requires { length bytes.now < 2 ^ 31 }
     ensures script { IfOk result (λ script. Reads bytes.now script) }
     ensures shallow { IfOk result (λ script. script_depth script ≤ limit) }

@@ -1,4 +1,4 @@
-use crate::script::read_whole_script;
+use crate::script::read_script;
 use crate::shapes::shape;
 use es5_tree::{EsStop, es_depth};
 use std::alloc::{AllocError, Global};
@@ -13,7 +13,7 @@ fn shown(alloc: Global, bytes: &[u8], columns: bool) -> Result<String, AllocErro
     if MOST_BYTES < bytes.len() {
         return Ok(String::new(alloc));
     }
-    match read_whole_script(alloc, bytes) {
+    match read_script(alloc, bytes) {
         Ok(script) => shape(alloc, &script, columns),
         Err(EsStop::NotScript { pos }) => {
             let (line, col) = (pos.line, pos.col);
@@ -87,7 +87,7 @@ fn depth(alloc: Global, bytes: &[u8]) -> u32 {
     if MOST_BYTES < bytes.len() {
         return 0;
     }
-    match read_whole_script(alloc, bytes) {
+    match read_script(alloc, bytes) {
         Ok(script) => es_depth(&script),
         Err(EsStop::NotScript { pos }) => pos.col.saturating_add(10_000),
         Err(EsStop::NoMemory) => 0,

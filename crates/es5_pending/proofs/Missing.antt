@@ -1,6 +1,6 @@
 -- Nodes that aren't in the table.
 use Rattle.std.proofs.Common.{◌≡◌, List, refl, ap, ◌∙◌}
-use Rattle.es5_tree.specs.State.{Null}
+use Rattle.es5_tree.specs.Values.{Null}
 use Rattle.es5_tree.specs.Tree.{start}
 use Rattle.es5_tree.specs.declared.tree.EsExpr.{EsExpr}
 use Rattle.es5_tree.specs.declared.tree.EsKind.{out-roll-EsKind}

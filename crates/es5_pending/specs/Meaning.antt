@@ -4,7 +4,7 @@ use Rattle.opal_base.specs.declared.place.Pos.{Pos}
 use Rattle.es5_tree.specs.declared.tree.Catch.{Catch, roll-Catch}
 use Rattle.es5_tree.specs.declared.tree.EsStmt.{EsStmt}
 use Rattle.es5_tree.specs.declared.tree.EsKind.TheOpen.{EsKind-F}
-use Rattle.es5_tree.specs.State.{Text, Val, Undefined, Truth}
+use Rattle.es5_tree.specs.Values.{Text, Val, Undefined, Truth}
 use Rattle.es5_evaluation.specs.Task.{Place, Completion, Normal, Refers, Return, Throw, Break, Continue, Scope, Request, Task, Done, Leaves, Ask, ◌>>=◌}
 use Rattle.es5_evaluation.specs.Task as task
 use Rattle.es5_evaluation.specs.Values.{truthy, negated, binary}

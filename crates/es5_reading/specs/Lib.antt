@@ -1,4 +1,3 @@
-pub mod Ahead
 pub mod Gives
 pub mod Named
 pub mod Loops

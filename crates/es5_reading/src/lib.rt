@@ -2,7 +2,6 @@
 //! them (ECMA-262 5.1, sections 11 to 14).
 #![tactic(auto)]
 
-pub mod cursor;
 pub mod making;
 pub mod parts;
 pub mod terminal;

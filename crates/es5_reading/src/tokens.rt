@@ -3,7 +3,8 @@
 ghost use Rattle.std.specs.Prelude.{◌≡◌, [], ◌∷◌, length, not, ◌||◌, bytes_eq};
 ghost use Rattle.grammar.specs.FormReaders.{next_in, read_token};
 ghost use Rattle.grammar.specs.Spelling.{token_in, token_such};
-ghost use Rattle.es5_tree.specs.Reading.{is_directive};
+ghost use Rattle.es5_tree.specs.Lexed as lexed;
+ghost use Rattle.es5_tree.specs.Lexed.{is_directive};
 ghost use Rattle.es5_tree.specs.Grammar.Nodes.{is_new, name_of};
 ghost use Rattle.es5_tree.specs.declared.terminal.Terminal.TheVariants as terminal;
 ghost use Rattle.es5_tree.specs.declared.token.EsMark.TheVariants as mark;
@@ -12,16 +13,33 @@ ghost use Rattle.es5_tree.specs.Grammar.Table.{begins_expression, begins_stateme
 ghost use Rattle.descent.specs.Sets.{one_of};
 ghost use Rattle.es5_reading.specs.Gives.{ahead, GivesToken, codes};
 
-use crate::cursor::is_directive;
 use crate::terminal::{code_of, terminal_of};
 use descent::{Fail, either};
-use es5_tree::{EsMark, EsToken, EsTokenKind, Keyword, Terminal};
+use es5_tree::{EsMark, EsToken, EsTokenKind, Keyword, Terminal, is_word};
 use opal_base::{Names, Units};
 
 /// The tokens that are left.
 #[derive(Drop)]
 pub struct Tokens<'a> {
     pub rest: &'a [EsToken],
+}
+
+const USE_STRICT: &[u8] = b"use strict";
+
+/// Bytes of the directive with its quotes.
+const DIRECTIVE_SIZE: u32 = 12;
+
+// Whether the token is the directive, without escapes (ECMA-262 5.1, 14.1).
+fn is_directive(token: &EsToken) -> bool
+    ensures { result ≡ lexed.is_directive token.now }
+{
+    match &token.kind {
+        EsTokenKind::Str(text) => {
+            is_word(USE_STRICT, text.as_slice())
+                && u64::from(token.to) == u64::from(token.from) + u64::from(DIRECTIVE_SIZE)
+        }
+        _ => false,
+    }
 }
 
 fn same(one: &[u16], other: &[u16]) -> bool

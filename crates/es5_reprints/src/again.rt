@@ -2,7 +2,7 @@
 
 use crate::generate::Generator;
 use crate::{MOST_BYTES, put};
-use es5_parser::read_whole_script;
+use es5_parser::read_script;
 use es5_printer::{PrintStop, print};
 use es5_spelling::is_spellable;
 use es5_tree::{EsStop, Script, es_depth};
@@ -42,7 +42,7 @@ fn is_same_again(alloc: Global, script: &Script, text: &[u8]) -> Result<bool, Al
     if text.len() > MOST_BYTES {
         return Ok(false);
     }
-    match read_whole_script(alloc, text) {
+    match read_script(alloc, text) {
         Ok(read) => {
             let again = text_of(alloc, &read)?;
             Ok(again.as_slice() == text && es_depth(&read) == es_depth(script))

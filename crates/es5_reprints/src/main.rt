@@ -12,7 +12,7 @@ mod again;
 mod generate;
 
 use crate::again::shown_again;
-use es5_parser::read_whole_script;
+use es5_parser::read_script;
 use es5_printer::{PrintStop, print};
 use es5_tree::EsStop;
 use opal_base::{Bytes, Pos};
@@ -91,7 +91,7 @@ fn reprint(alloc: Global, bytes: &[u8]) -> Result<Answer, AllocError> {
     if bytes.len() > MOST_BYTES {
         return Ok(Answer::NotScript(Pos { line: 0, col: 0 }));
     }
-    match read_whole_script(alloc, bytes) {
+    match read_script(alloc, bytes) {
         Ok(script) => match print(alloc, &script) {
             Ok(printed) => Ok(Answer::Printed(printed.bytes)),
             Err(PrintStop::NoMemory | PrintStop::TooLong) => Err(AllocError),

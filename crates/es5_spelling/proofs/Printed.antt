@@ -18,8 +18,7 @@ use Rattle.es5_tree.specs.Grammar.Spelling.{bare_stmt, before_end, up_to_end}
 use Rattle.es5_tree.specs.Grammar.Statements.{whole_script}
 use Rattle.es5_tree.specs.Grammar.Table.{table}
 use Rattle.es5_tree.specs.Grammar.Terminals.{a, code_of, op, terminal_of, token_code}
-use Rattle.es5_tree.specs.Lexed.{token_at, token_if, tokens_from}
-use Rattle.es5_tree.specs.Reading.{is_directive}
+use Rattle.es5_tree.specs.Lexed.{token_at, token_if, tokens_from, is_directive}
 use Rattle.es5_tree.specs.Tokens.{Comment, Form, kind_of, Mark, Num, Piece, Reaches, Space, Str, Word}
 use Rattle.es5_tree.proofs.Written.{text_stands_is}
 use Rattle.es5_printer.specs.Forms.{lines}

@@ -6,9 +6,8 @@ use Rattle.es5_tree.specs.declared.token.EsToken.{EsToken}
 use Rattle.es5_tree.specs.declared.token.EsTokenKind.TheVariants as token
 use Rattle.es5_tree.specs.Grammar.Names as rule
 use Rattle.es5_tree.specs.Grammar.Spelling.{before_end, up_to_end}
-use Rattle.es5_tree.specs.Spells.{IsEnded}
+use Rattle.es5_tree.specs.Lexed.{IsEnded, token_at, token_if, tokens_from}
 use Rattle.es5_tree.specs.Grammar.Table.{table}
-use Rattle.es5_tree.specs.Lexed.{token_at, token_if, tokens_from}
 use Rattle.es5_tree.specs.Tokens.{after_piece, kind_of, Piece, Reaches}
 use Rattle.es5_tree.specs.declared.token.EsTokenKind.{EsTokenKind}
 use Rattle.es5_tree.specs.declared.lexing.Restriction.{Restriction}

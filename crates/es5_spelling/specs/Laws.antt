@@ -2,7 +2,7 @@
 use Rattle.std.specs.Prelude.{◌≡◌, ℕ, ◌<◌, ◌≤◌, List, length}
 use Rattle.es5_tree.specs.declared.tree.Script.{Script}
 use Rattle.es5_tree.specs.Grammar.Spelling.{EsSpells, Reads, SpellsScript}
-use Rattle.es5_tree.specs.Spells.{IsEnded}
+use Rattle.es5_tree.specs.Lexed.{IsEnded}
 use Rattle.es5_tree.specs.declared.token.EsToken.{EsToken}
 use Rattle.es5_printer.specs.Text.{text_of}
 use Rattle.es5_spelling.specs.Nodes.{script_nodes}

@@ -1,7 +1,7 @@
 -- The record that binds a name, record by record.
 use Rattle.std.proofs.Common.{◌≡◌, ℕ, suc, ◌+◌, ◌-◌, ◌<◌, ◌≤◌, true, false, List, length, get_or, Option, Some, None, refl, sym, ap, ◌∙◌, arith}
 use Rattle.std.proofs.lemmas.List.{length-map}
-use Rattle.es5_tree.specs.State.{Text}
+use Rattle.es5_tree.specs.Values.{Text}
 use Rattle.es5_evaluation.specs.State.{Activation, binding, binding_by, binds}
 use Rattle.es5_store.specs.declared.store.Record.{Record}
 use Rattle.es5_store.specs.Store.{record_of, records_of}

@@ -1,6 +1,6 @@
 -- Names, step by step.
 use Rattle.std.proofs.Common.{◌≡◌, ℕ, ◌<◌, true, false, is_some, List, [], ◌++◌, ◌≤◌, length, take, drop, get_or, set, append-nil, arith, drop_of_length-le, Option, Some, None, Result, refl, sym, ap, ap₂, ◌∙◌, subst, codes}
-use Rattle.es5_tree.specs.State.{Text, Val, Str, Undefined}
+use Rattle.es5_tree.specs.Values.{Text, Val, Str, Undefined}
 use Rattle.es5_evaluation.specs.State.{Activation, binding, record_at, has_variable, value_in, with_variable}
 use Rattle.es5_evaluation.specs.Task.{Scope, Task, Completion, Answers, Variable, walk, ◌>>=◌}
 use Rattle.es5_evaluation.specs.Values.{or_undefined, type_name}

@@ -2,8 +2,8 @@
 use Rattle.std.proofs.Common.{◌≡◌, ℕ, ◌<◌, ◌≤◌, Bool, true, false, not, ◌&&◌, ◌||◌, is_some, List, [], length, set, Option, Some, None, Result, refl, sym, ap, ◌∙◌, subst, arith, codes}
 use Rattle.std.proofs.lemmas.List.{length-set}
 use Rattle.opal_base.specs.declared.place.Pos.{Pos}
-use Rattle.es5_tree.specs.State.{Text, Val, Truth, Obj}
-use Rattle.es5_tree.specs.Task.{Conversion}
+use Rattle.es5_tree.specs.Values.{Text, Val, Truth, Obj}
+use Rattle.es5_tree.specs.Ends.{Conversion}
 use Rattle.es5_tree.specs.Objects.Cells.{Cell, put, delete, is_array_length, CanPut, IsLength}
 use Rattle.es5_tree.specs.Objects.Links.{cell_at}
 use Rattle.es5_tree.specs.Intrinsics.Rows.{natural_of, as_length}

@@ -1,6 +1,6 @@
 -- Records in which a variable has another value.
 use Rattle.std.specs.Prelude.{ℕ}
-use Rattle.es5_tree.specs.State.{Val}
+use Rattle.es5_tree.specs.Values.{Val}
 use Rattle.es5_host.specs.Bindings.{with_value_at}
 use Rattle.es5_evaluation.specs.State.{Activation}
 

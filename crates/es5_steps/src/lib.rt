@@ -3,8 +3,6 @@
 
 mod names;
 mod properties;
-#[cfg(test)]
-mod tests;
 
 pub use names::{read_name, type_of, type_of_name, write_name};
 pub use properties::{delete_property, read_property, write_property};

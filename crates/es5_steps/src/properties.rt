@@ -1,7 +1,7 @@
 //! Properties (ECMA-262 5.1, sections 8.7.1, 8.7.2 and 8.12).
 
 ghost use Rattle.std.specs.Prelude.{◌≡◌, ◌<◌, List, length, is_some, IsTrue, OnOk, IfOk};
-ghost use Rattle.es5_tree.specs.State.{Obj};
+ghost use Rattle.es5_tree.specs.Values.{Obj};
 ghost use Rattle.es5_tree.specs.Intrinsics.Rows.{as_length, natural_of};
 ghost use Rattle.es5_evaluation.specs.Values.{property_from};
 ghost use Rattle.es5_evaluation.specs.Task.{Scope};

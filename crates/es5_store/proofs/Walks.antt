@@ -2,7 +2,7 @@
 use Rattle.std.proofs.Common.{◌≡◌, ℕ, ◌+◌, ◌≤◌, ◌<◌, List, [], ◌∷◌, ◌++◌, length, Result, Ok, Err, Option, Some, None, refl, sym, ap, ◌∙◌, subst, arith}
 use Rattle.std.proofs.lemmas.List.{length-append, length-map}
 use Rattle.opal_base.specs.Shown.{HostCall}
-use Rattle.es5_tree.specs.State.{Text, Val, Obj}
+use Rattle.es5_tree.specs.Values.{Text, Val, Obj}
 use Rattle.es5_tree.specs.Intrinsics.Valid.{Valid}
 use Rattle.es5_tree.specs.Objects.Cells.{Cell}
 use Rattle.es5_evaluation.specs.Task.{Completion, Throw, Scope, Task, Done, Make, Answers, walk, ◌>>=◌}

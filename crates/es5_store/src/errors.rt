@@ -1,7 +1,7 @@
 //! Errors that a run throws: plain objects with own `name` and `message`.
 
 ghost use Rattle.std.specs.Prelude.{◌≡◌, ◌<◌, ◌++◌, List, length, codes, OnOk, IfOk, Some};
-ghost use Rattle.es5_tree.specs.State.{Str};
+ghost use Rattle.es5_tree.specs.Values.{Str};
 ghost use Rattle.es5_tree.specs.Objects.Cells.{Object, new_cell, put};
 ghost use Rattle.es5_tree.specs.Intrinsics.Made.{object_prototype};
 ghost use Rattle.es5_tree.specs.Objects.Links.{cell_at};

@@ -2,7 +2,7 @@
 
 ghost use Rattle.std.specs.Prelude.{◌≡◌, ◌↔◌, ◌≤◌, ◌<◌, [], ◌∷◌, ◌++◌, length, IsTrue, OnOk, OnErr, IfOk};
 ghost use Rattle.std.specs.Option.{option_copied};
-ghost use Rattle.es5_tree.specs.State.{find_own};
+ghost use Rattle.es5_tree.specs.Values.{find_own};
 ghost use Rattle.es5_evaluation.specs.State.{binds, has_variable, value_in};
 ghost use Rattle.es5_objects.specs.Values.{value_if};
 ghost use Rattle.es5_store.specs.Store.{IsFull, Sound, record_of};

@@ -4,6 +4,7 @@ use Rattle.std.proofs.lemmas.Bool.{cases_eq}
 use Rattle.std.proofs.lemmas.List.{take-append-drop, length-take, append_cancel_left}
 use Rattle.std.specs.List.{prefix_len}
 use Rattle.std.specs.Option.{option_map}
+use Rattle.es5_tree.specs.declared.token.EsToken.{EsToken}
 use Rattle.es5_tree.specs.declared.token.EsTokenKind.TheVariants as kind
 use Rattle.es5_tree.specs.declared.sign.Sign.{Sign}
 use Rattle.es5_tree.specs.declared.sign.Sign.TheVariants as sign
@@ -18,9 +19,14 @@ use Rattle.es5_tree.specs.Signs.{sign_at}
 use Rattle.es5_tree.specs.Tokens.{Form, Space, Comment, Word, Num, Str, Mark, Stands, Stuck, kind_of, StandsAt, StuckAt, allows, after_piece, after_all, Piece, Reaches}
 use Rattle.es5_tree.specs.Lexed.{LexesTo, tokens_from, token_at}
 use Rattle.es5_tree.specs.Laws.{Lexed, LexedOnce, TokensOrNone}
-use Rattle.es5_tree.proofs.OneCut.{class_in, stands_class, stands_one, no_digits, none_some, same_cons, stands_some, reaches_one, end_stuck}
+use Rattle.es5_tree.proofs.OneCut.{class_in, stands_class, stands_one, no_digits, none_some, same_cons, stands_some, lexes_one, reaches_one, end_stuck}
 use Rattle.es5_tree.proofs.Signs.{class_at, sign_fits}
-use Rattle.es5_tree.proofs.OneScript.{tokens_one}
+
+-- bytes have one list of tokens at most
+tokens_one : (bytes : List ℕ) (tokens others : List EsToken) → LexesTo bytes tokens → LexesTo bytes others → tokens ≡ others
+tokens_one bytes tokens others h h' =
+    let same = lexes_one h.pieces h'.pieces bytes h.lexed h'.lexed in
+    h.same ∙ ap (λ ps. tokens_from bytes 0 ps ++ token_at bytes _ 0 kind.End ∷ []) same ∙ sym h'.same
 
 -- ---- a character has a byte
 

@@ -6,7 +6,7 @@ use Rattle.std.specs.Int.Digits.{digits_of, AllBelowBase}
 use Rattle.std.proofs.lemmas.Int.Digits.{all_below_base_digits_of}
 use Rattle.std.proofs.lemmas.Bool.{false≢true}
 use Rattle.std.proofs.lemmas.Slice.Eq.{bytes_eq-Decides}
-use Rattle.es5_tree.specs.State.{Text, Val, find_own}
+use Rattle.es5_tree.specs.Values.{Text, Val, find_own}
 use Rattle.es5_tree.specs.Objects.Names.{decimal, index_of, is_length, length_name}
 use Rattle.es5_tree.specs.Objects.Cells.{Cell, Kind, Object, Array, Arguments, Function, Host, Record, own, is_array, has_length, is_array_length, insert_number, rising, indices, other_names, keys}
 use Rattle.es5_tree.proofs.ObjectProperties.{index_spelled}

@@ -3,7 +3,7 @@ use Rattle.std.proofs.Common.{◌≡◌, ℕ, zero, suc, ◌+◌, ◌-◌, ◌<�
 use Rattle.std.proofs.lemmas.Slice.Eq.{bytes_eq-Decides}
 use Rattle.std.proofs.lemmas.Int.Digits.{number_digits_of}
 use Rattle.std.specs.Int.Digits.{digits_of, number_from_digits}
-use Rattle.es5_tree.specs.State.{Text, Val, find_own}
+use Rattle.es5_tree.specs.Values.{Text, Val, find_own}
 use Rattle.es5_tree.specs.Objects.Names.{decimal, number_of, index_of, index_end}
 use Rattle.es5_tree.specs.Objects.Cells.{Cell, own, put, delete, is_array_length, with_property, without_property, with_value}
 

@@ -9,8 +9,8 @@ use Rattle.es5_tree.specs.declared.token.EsTokenKind.TheVariants as token
 use Rattle.es5_tree.specs.declared.lexing.Restriction.{Restriction}
 use Rattle.es5_tree.specs.declared.lexing.Restriction.TheVariants.{Free}
 use Rattle.es5_tree.specs.Numerals.{value, is_no_numeral, numeral}
-use Rattle.es5_tree.specs.Tokens.{Form, Word, Num, Str, Mark, Stands, kind_of, Piece, after_piece, Reaches}
-use Rattle.es5_tree.specs.Lexed.{token_at, token_if, tokens_from, Ascends, IsSafe, IsSafeKind}
+use Rattle.es5_tree.specs.Tokens.{Form, Space, Comment, Word, Num, Str, Mark, Stands, kind_of, Piece, after_piece, Reaches}
+use Rattle.es5_tree.specs.Lexed.{LexesTo, token_at, token_if, tokens_from, Ascends, IsEnded, IsSafe, IsSafeKind}
 use Rattle.es5_tree.specs.Laws.{SlicesAscend, NumeralsSafe}
 
 -- ---- slices
@@ -63,3 +63,29 @@ safe_from (piece ∷ pieces) restriction bytes text rest end from (mid, r, st, h
 
 pub numerals_safe_is : NumeralsSafe
 numerals_safe_is bytes tokens h = subst (AllByRecursion IsSafe) (sym h.same) (safe_from h.pieces Free bytes bytes [] (length bytes) 0 h.lexed)
+
+-- ---- the end token
+
+kind_not_end : (form : Form) (k : EsTokenKind) → kind_of form ≡ Some k → k ≡ token.End → ⊥
+kind_not_end Space k e f = cc
+kind_not_end Comment k e f = cc
+kind_not_end (Word name) k e f = cc
+kind_not_end (Num value) k e f = cc
+kind_not_end (Str text) k e f = cc
+kind_not_end (Mark mark) k e f = cc
+
+one_more : (t : EsToken) (tokens : List EsToken) → (t.kind ≡ token.End → ⊥) → IsEnded tokens → IsEnded (t ∷ tokens)
+one_more t [] n h = absurd h
+one_more t (next ∷ tokens) n h = (n, h)
+
+ended_from : (bytes : List ℕ) (pieces : List Piece) (from : ℕ) (end : EsToken) → end.kind ≡ token.End → IsEnded (tokens_from bytes from pieces ++ end ∷ [])
+ended_from bytes [] from end e = e
+ended_from bytes (piece ∷ pieces) from end e = by (kind_of piece.form) refl (ended_from bytes pieces (from + length piece.slice) end e)
+  where
+    by : (o : Option EsTokenKind) → kind_of piece.form ≡ o → IsEnded (tokens_from bytes (from + length piece.slice) pieces ++ end ∷ []) → IsEnded ((token_if bytes from (length piece.slice) o ++ tokens_from bytes (from + length piece.slice) pieces) ++ end ∷ [])
+    by None f i = i
+    by (Some k) f i = one_more (token_at bytes from (length piece.slice) k) (tokens_from bytes (from + length piece.slice) pieces ++ end ∷ []) (kind_not_end piece.form k f) i
+
+-- the tokens of bytes end with their one end token
+pub lexed_ended : (bytes : List ℕ) (tokens : List EsToken) → LexesTo bytes tokens → IsEnded tokens
+lexed_ended bytes tokens h = subst IsEnded (sym h.same) (ended_from bytes h.pieces 0 (token_at bytes (length bytes) 0 token.End) refl)

@@ -1,5 +1,5 @@
 -- The tokens of bytes, and the first byte where none begins (ECMA-262 5.1, section 7).
-use Rattle.std.specs.Prelude.{◌≡◌, ℕ, ◌+◌, ◌<◌, ◌≤◌, ◌^◌, List, [], ◌∷◌, ◌++◌, length, pos, Option, None, Some}
+use Rattle.std.specs.Prelude.{◌≡◌, ℕ, ◌+◌, ◌<◌, ◌≤◌, ◌^◌, Bool, false, ◌==◌, ◌&&◌, List, [], ◌∷◌, ◌++◌, length, pos, Option, None, Some, bytes_eq, codes}
 use Rattle.opal_base.specs.Place.{place_at}
 use Rattle.opal_base.specs.declared.place.Pos.{Pos}
 use Rattle.es5_tree.specs.declared.token.EsStop.{EsStop}
@@ -28,6 +28,20 @@ pub record LexesTo (bytes : List ℕ) (tokens : List EsToken) : Type 0 where
   pub pieces : List Piece
   pub lexed : Lexes bytes pieces
   pub same : tokens ≡ tokens_from bytes 0 pieces ++ token_at bytes (length bytes) 0 kind.End ∷ []
+
+-- the list has one end token and ends with it
+abbrev pub IsEnded : List EsToken → Type 0
+IsEnded [] = ⊥
+IsEnded (token ∷ []) = token.kind ≡ kind.End
+IsEnded (token ∷ next ∷ tokens) = (token.kind ≡ kind.End → ⊥) × IsEnded (next ∷ tokens)
+
+abbrev pub is_text : List ℕ → EsTokenKind → Bool
+is_text text (kind.Str other) = bytes_eq text other
+is_text text k = false
+
+-- the token is the directive as it stands: a literal of twelve bytes, quotes with it, has no escapes (14.1)
+abbrev pub is_directive : EsToken → Bool
+is_directive token = is_text (codes "use strict") token.kind && (token.to == token.from + 12)
 
 -- the slices follow one another from a byte on
 abbrev pub Ascends : ℕ → List EsToken → Type 0

@@ -1,4 +1,6 @@
 pub mod Tree
+pub mod Values
+pub mod Ends
 pub mod Text
 pub mod Depth
 pub mod Characters
@@ -9,13 +11,7 @@ pub mod Reserved
 pub mod Tokens
 pub mod Lexed
 pub mod Written
-pub mod Spells
-pub mod Reading
 pub mod Grammar
-pub mod State
-pub mod Task
-pub mod Eval
-pub mod Run
 pub mod Laws
 pub mod Objects
 pub mod Intrinsics

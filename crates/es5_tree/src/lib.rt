@@ -8,7 +8,6 @@ mod object_laws;
 mod reserved;
 mod safe_int;
 mod sign;
-pub mod small;
 mod terminal;
 mod token;
 mod tree;
@@ -19,9 +18,7 @@ pub use grammar_laws::{
     beginnings_are_fronts, bytes_spell_one, one_token_tells, script_or_place, tokens_spell_one,
 };
 pub use laws::{
-    cells_grow, decimal_numerals, longest_sign, one_list_of_tokens, one_place, one_read,
-    one_script, one_stop, runs, sites_dont_matter, small_scripts, text_spells, tokens_in_order,
-    writes_in_turn, written_tokens,
+    decimal_numerals, longest_sign, one_list_of_tokens, tokens_in_order, written_tokens,
 };
 pub use lexing::{Class, Restriction};
 pub use object_laws::{

@@ -1,22 +1,25 @@
 -- What out took of a compiled script.
-use Rattle.std.proofs.Common.{◌≡◌, ℕ, List, [], Ok, Err, Result, IfOk, refl, sym, ap, ◌∙◌, subst, arith}
+use Rattle.std.proofs.Common.{◌≡◌, ◌<◌, ◌^◌, ℕ, List, length, [], Ok, Err, Result, IfOk, refl, sym, ap, ◌∙◌, subst, arith}
 use Rattle.std.specs.declared.option.Option.{Option}
 use Rattle.opal_base.specs.Outside.{FileMap, appended, TookFront}
 use Rattle.opal_base.proofs.Took.{appended_none}
 use Rattle.ruby_meaning.specs.declared.bundle.Bundle.{Bundle}
 use Rattle.ruby_meaning.specs.Load.{Loaded, Loads, Whole, Missing, Refused}
 use Rattle.ruby_meaning.specs.Laws.{OneLoad}
-use Rattle.es5_tree.specs.declared.small.Script.{Script}
-use Rattle.es5_tree.specs.Text.{text_of}
-use Rattle.es5_tree.specs.Spells.{EsSpells}
+use Rattle.es5_tree.specs.declared.tree.Script.{Script}
+use Rattle.es5_tree.specs.Grammar.Spelling.{EsSpells}
+use Rattle.es5_printer.specs.Text.{text_of}
+use Rattle.es5_printer.specs.declared.script.PrintStop.{PrintStop}
+use Rattle.es5_printer.specs.declared.script.PrintStop.TheVariants as stop
 use Rattle.opal_cli.specs.Agree.{Agree}
 use Rattle.opal_cli.specs.Translation.{script_of}
 use Rattle.opal_cli.specs.Ends.{End, Wrote, status_of, IsAnswer}
 use Rattle.require_bundles.specs.Loading.{FailsToLoad}
-use Rattle.opal_cli.specs.Loading.{end_of_fault}
+use Rattle.opal_cli.specs.Loading.{end_of_fault, end_of_stop}
 use Rattle.require_bundles.specs.declared.bundle.LoadFault.{LoadFault}
 use Rattle.require_bundles.specs.declared.bundle.LoadFault.TheVariants as fault
-use Rattle.opal_cli.specs.Answers.{LoadWith, output_of_load}
+use Rattle.opal_cli.specs.Answers.{LoadWith, CompileWith, output_of_load, script_text}
+use Rattle.opal_cli.specs.Execution.{IsTooLong}
 use Rattle.opal_cli.specs.Headline.{Compiles}
 
 -- nothing is a front of every text
@@ -48,7 +51,20 @@ unloaded_answer f map file fault.ReadFault end told loads is answer = absurd (su
 unloaded_answer f map file fault.Missing end told loads is answer = ([], (Missing file, loads, is, refl), sym (appended_none told))
 unloaded_answer f map file (fault.Refused pos construct) end told loads is answer = ([], (Refused file pos construct, loads, is, refl), sym (appended_none told))
 
--- the text that was printed spells the script
-pub spelled : {E : Type 0} (r : Result (List ℕ) E) (script wanted : Script) → EsSpells wanted (text_of wanted) → script ≡ wanted → IfOk r (λ text. text ≡ text_of script) → IfOk r (λ text. EsSpells wanted text)
-spelled (Ok text) script wanted h e p = subst (EsSpells wanted) (sym (p ∙ ap text_of e)) h
-spelled (Err f) script wanted h e p = tt
+-- ---- the answer of compiling
+
+-- all of the script was written
+pub script_written : (map : FileMap) (file : List ℕ) (bundle : Bundle) (text : List ℕ) (old new : Option (List ℕ)) → Loads map file (Whole bundle) → text ≡ script_text bundle → length text < 2 ^ 31 → new ≡ appended old text → CompileWith map file Wrote old new
+script_written map file bundle text old new loads is short took = (text, (bundle, loads, short, is), took)
+
+-- the main file doesn't load
+pub nothing_compiled : (map : FileMap) (file : List ℕ) (g : LoadFault) (end : End) (told : Option (List ℕ)) → FailsToLoad map file g → end ≡ end_of_fault file g → IsAnswer (status_of end) → CompileWith map file end told told
+nothing_compiled map file fault.NoMemory end told loads is answer = absurd (subst (λ e. IsAnswer (status_of e)) is answer)
+nothing_compiled map file fault.ReadFault end told loads is answer = absurd (subst (λ e. IsAnswer (status_of e)) is answer)
+nothing_compiled map file fault.Missing end told loads is answer = subst (λ e. CompileWith map file e told told) (sym is) ([], (loads, refl), sym (appended_none told))
+nothing_compiled map file (fault.Refused pos construct) end told loads is answer = subst (λ e. CompileWith map file e told told) (sym is) ([], (loads, refl), sym (appended_none told))
+
+-- the script isn't printed
+pub nothing_printed : (map : FileMap) (file : List ℕ) (bundle : Bundle) (g : PrintStop) (end : End) (told : Option (List ℕ)) → Loads map file (Whole bundle) → (g ≡ stop.TooLong → IsTooLong bundle) → end ≡ end_of_stop g → IsAnswer (status_of end) → CompileWith map file end told told
+nothing_printed map file bundle stop.NoMemory end told loads long is answer = absurd (subst (λ e. IsAnswer (status_of e)) is answer)
+nothing_printed map file bundle stop.TooLong end told loads long is answer = subst (λ e. CompileWith map file e told told) (sym is) ([], ((bundle, loads, long refl), refl), sym (appended_none told))

@@ -5,14 +5,16 @@ use Rattle.opal_base.specs.Shown.{Shown, Ended, Going, Shows}
 use Rattle.ruby_meaning.specs.declared.bundle.Bundle.{Bundle}
 use Rattle.ruby_meaning.specs.Run as ruby
 use Rattle.ruby_meaning.specs.Run.{RubyEnd, ruby_run}
-use Rattle.es5_tree.specs.declared.small.Script.{Script}
-use Rattle.es5_tree.specs.Laws as law
-use Rattle.es5_tree.specs.Laws.{OneScript, ReadSpells, SitesDontMatter, SameShown}
-use Rattle.es5_tree.specs.Run as es
-use Rattle.es5_tree.specs.Run.{EsEnd, es_run}
-use Rattle.es5_tree.specs.State.{Text}
-use Rattle.es5_machine.specs.Run.{kind_of}
-use Rattle.es5_machine.specs.declared.end.OutKind.{OutKind as Kind}
+use Rattle.es5_tree.specs.declared.tree.Script.{Script}
+use Rattle.es5_tree.specs.Ends.{EsEnd}
+use Rattle.es5_tree.specs.Ends as es
+use Rattle.es5_tree.specs.Grammar.Laws.{OneSpelled, ReadSpells}
+use Rattle.es5_evaluation.specs.Run.{es_run}
+use Rattle.es5_laws.specs.Laws as law
+use Rattle.es5_laws.specs.Laws.{SitesDontMatter, SameShown}
+use Rattle.es5_tree.specs.Values.{Text}
+use Rattle.es5_host.specs.Values.{out_of}
+use Rattle.es5_host.specs.declared.answer.OutKind.{OutKind as Kind}
 use Rattle.opal_base.specs.declared.place.Pos.{Pos}
 use Rattle.opal_cli.specs.declared.words.Budget.{Budget}
 use Rattle.opal_cli.specs.declared.status.Status.{Status}
@@ -69,10 +71,10 @@ goes_like bundle script input n output (Going shown) agree e s =
     let r = agree.goes_only input n shown e in
     (r.0, subst (Shows (ruby_run bundle input r.0)) (sym s) r.1)
 
-same_shown : OneScript → ReadSpells → SitesDontMatter → (bundle : Bundle) (script : Script) → IsProgram bundle script → (input : Text) (n : ℕ) → SameShown (es_run script input n) (es_run (script_of bundle) input n)
-same_shown one spells sites bundle script p input n = sites script (script_of bundle) (one script (script_of bundle) _ (spells _ script p.reads) p.spells) input n
+same_shown : OneSpelled → ReadSpells → SitesDontMatter → (bundle : Bundle) (script : Script) → IsProgram bundle script → (input : Text) (n : ℕ) → SameShown (es_run script input n) (es_run (script_of bundle) input n)
+same_shown one spells sites bundle script p input n = sites script (script_of bundle) (one _ script (script_of bundle) (spells _ script p.reads) p.spells) input n
 
-ruby_ends : OneScript → ReadSpells → SitesDontMatter → (bundle : Bundle) (script : Script) → IsProgram bundle script → (input : Text) (n : ℕ) (output : List ℕ) (end : EsEnd) → es_run script input n ≡ Ended output end → RubyEnds bundle input output end
+ruby_ends : OneSpelled → ReadSpells → SitesDontMatter → (bundle : Bundle) (script : Script) → IsProgram bundle script → (input : Text) (n : ℕ) (output : List ℕ) (end : EsEnd) → es_run script input n ≡ Ended output end → RubyEnds bundle input output end
 ruby_ends one spells sites bundle script p input n output end e =
     ended_like bundle (script_of bundle) input n output end _ p.agrees refl (subst (λ s. SameShown s (es_run (script_of bundle) input n)) e (same_shown one spells sites bundle script p input n))
 
@@ -86,13 +88,13 @@ uncaught bundle input output name message n ruby.Finished e s = absurd s
 uncaught bundle input output name message n (ruby.Uncaught other text) e s = (n, e ∙ ap (Ended output) (ap (λ x. ruby.Uncaught x text) s.0 ∙ ap (ruby.Uncaught name) s.1))
 uncaught bundle input output name message n ruby.NumberOutside e s = absurd s
 
-outside : (bundle : Bundle) (input : Text) (output : List ℕ) (kind : Kind) (pos : Pos) (n : ℕ) (last : RubyEnd) → ruby_run bundle input n ≡ Ended output last → SameEnd last (es.Outside (kind_of kind) pos) → RubyShows bundle input (OutsideAt kind pos) output
+outside : (bundle : Bundle) (input : Text) (output : List ℕ) (kind : Kind) (pos : Pos) (n : ℕ) (last : RubyEnd) → ruby_run bundle input n ≡ Ended output last → SameEnd last (es.Outside (out_of kind) pos) → RubyShows bundle input (OutsideAt kind pos) output
 outside bundle input output kind pos n ruby.Finished e s = absurd s
 outside bundle input output kind pos n (ruby.Uncaught name message) e s = absurd s
 outside bundle input output kind pos n ruby.NumberOutside e s = (n, e)
 
 -- the evaluation shows what the run of the script read back shows
-pub ruby_shows : OneScript → ReadSpells → SitesDontMatter → (bundle : Bundle) (script : Script) → IsProgram bundle script → (input : Text) (budget : Budget) (end : End) (output : List ℕ) → RunsTo script input budget end output → RubyShows bundle input end output
+pub ruby_shows : OneSpelled → ReadSpells → SitesDontMatter → (bundle : Bundle) (script : Script) → IsProgram bundle script → (input : Text) (budget : Budget) (end : End) (output : List ℕ) → RunsTo script input budget end output → RubyShows bundle input end output
 ruby_shows one spells sites bundle script p input budget Wrote output r =
     let t = ruby_ends one spells sites bundle script p input budget.steps output es.Finished r.shows in
     finished bundle input output t.0 t.1 t.2 t.3
@@ -100,7 +102,7 @@ ruby_shows one spells sites bundle script p input budget (UncaughtBy name messag
     let t = ruby_ends one spells sites bundle script p input budget.steps output (es.Uncaught name message) r.shows in
     uncaught bundle input output name message t.0 t.1 t.2 t.3
 ruby_shows one spells sites bundle script p input budget (OutsideAt kind pos) output r =
-    let t = ruby_ends one spells sites bundle script p input budget.steps output (es.Outside (kind_of kind) pos) r.shows in
+    let t = ruby_ends one spells sites bundle script p input budget.steps output (es.Outside (out_of kind) pos) r.shows in
     outside bundle input output kind pos t.0 t.1 t.2 t.3
 ruby_shows one spells sites bundle script p input budget (StepsOver steps) output r =
     goes_like bundle (script_of bundle) input budget.steps output _ p.agrees refl (subst (λ s. SameShown s (es_run (script_of bundle) input budget.steps)) r.1.shows (same_shown one spells sites bundle script p input budget.steps))
@@ -149,7 +151,7 @@ with_program files input file budget OutOfMemory output i r = absurd i
 with_program files input file budget TextTooLong output i r = absurd i
 
 -- what the answer says of Ruby
-pub executed : OneScript → ReadSpells → SitesDontMatter → (files : FileMap) (input : Option (List ℕ)) (file : List ℕ) (budget : Budget) (answer : Status) (old new : Option (List ℕ)) → IsRun answer → AnswersAs files input (Some (Exec file budget)) answer old new → Executes files input file budget answer old new
+pub executed : OneSpelled → ReadSpells → SitesDontMatter → (files : FileMap) (input : Option (List ℕ)) (file : List ℕ) (budget : Budget) (answer : Status) (old new : Option (List ℕ)) → IsRun answer → AnswersAs files input (Some (Exec file budget)) answer old new → Executes files input file budget answer old new
 executed one spells sites files input file budget answer old new i a =
     let end = a.0 in
     let output = a.1.0 in

@@ -3,21 +3,21 @@ use Rattle.std.proofs.Common.{◌≡◌, ◌⊎◌, ℕ, List, [], Err, refl, sy
 use mathlib.Core.Logic.{inl, inr}
 use Rattle.opal_base.specs.Outside.{FileMap}
 use Rattle.opal_base.proofs.Took.{appended_none}
-use Rattle.es5_tree.specs.declared.small.Script.{Script}
-use Rattle.es5_tree.specs.State.{Text}
+use Rattle.es5_tree.specs.declared.tree.Script.{Script}
+use Rattle.es5_tree.specs.Values.{Text}
 use Rattle.ruby_meaning.specs.declared.bundle.Bundle.{Bundle}
 use Rattle.ruby_meaning.specs.Load.{Loads, Whole}
 use Rattle.opal_cli.specs.declared.words.Budget.{Budget}
 use Rattle.require_bundles.specs.declared.bundle.LoadFault.{LoadFault}
 use Rattle.require_bundles.specs.declared.bundle.LoadFault.TheVariants as load_fault
-use Rattle.opal_cli.specs.declared.exec.BackFault.{BackFault}
-use Rattle.opal_cli.specs.declared.exec.BackFault.TheVariants as back
+use Rattle.es5_printer.specs.declared.script.PrintStop.{PrintStop}
+use Rattle.es5_printer.specs.declared.script.PrintStop.TheVariants as stop
 use Rattle.opal_cli.specs.declared.script.ScriptFault.{ScriptFault}
 use Rattle.opal_cli.specs.declared.script.ScriptFault.TheVariants as script_fault
 use Rattle.opal_cli.specs.Ends.{End, Wrote, UncaughtBy, Unread, RefusedAt, MissingFile, ReadFailed, WriteFailed, OutsideAt, StepsOver, CellsOver, NoScript, BadInputAt, OutOfMemory, TextTooLong, status_of, IsAnswer}
 use Rattle.require_bundles.specs.Loading.{FailsToLoad}
-use Rattle.opal_cli.specs.Loading.{end_of_fault}
-use Rattle.opal_cli.specs.Execution.{HasScript, HasProgram, IsProgram, RunAnswers, FileAnswers, ExecAnswers, RunWith, FileWith, ExecWith, TookRunFront, TookFileFront, TookExecFront, ScriptIn, end_of_script, EndsOnInput, EndsRun, IsInputOf, RunsTo, RanTo, ReadBack, end_of_back}
+use Rattle.opal_cli.specs.Loading.{end_of_fault, end_of_stop}
+use Rattle.opal_cli.specs.Execution.{HasScript, HasProgram, IsProgram, RunAnswers, FileAnswers, ExecAnswers, RunWith, FileWith, ExecWith, TookRunFront, TookFileFront, TookExecFront, ScriptIn, end_of_script, EndsOnInput, EndsRun, IsInputOf, RunsTo, RanTo, ReadBack}
 
 -- a run that began on the input is the answer
 run_answers : (input : Option (List ℕ)) (script : Script) (text : Text) (budget : Budget) (end : End) (output : List ℕ) → EndsRun end → IsInputOf input text → RunsTo script text budget end output → RunAnswers input script budget end output
@@ -100,6 +100,6 @@ exec_front files input file bundle script budget old new l p (inl e) = inl e
 exec_front files input file bundle script budget old new l p (inr f) = inr (bundle, script, record { loads = l; program = p }, f)
 
 -- where the script isn't read back, that is the answer
-pub not_back : (files : FileMap) (input : Option (List ℕ)) (file : List ℕ) (bundle : Bundle) (budget : Budget) (f : BackFault) (end : End) (told : Option (List ℕ)) → Loads files file (Whole bundle) → ReadBack bundle (Err f) → end ≡ end_of_back f → IsAnswer (status_of end) → ExecWith files input file budget end told told
-not_back files input file bundle budget back.NoMemory end told l b e a = absurd (subst (λ x. IsAnswer (status_of x)) e a)
-not_back files input file bundle budget back.TooLong end told l b e a = subst (λ x. ExecWith files input file budget x told told) (sym e) ([], ((bundle, l, b), refl), sym (appended_none told))
+pub not_back : (files : FileMap) (input : Option (List ℕ)) (file : List ℕ) (bundle : Bundle) (budget : Budget) (f : PrintStop) (end : End) (told : Option (List ℕ)) → Loads files file (Whole bundle) → ReadBack bundle (Err f) → end ≡ end_of_stop f → IsAnswer (status_of end) → ExecWith files input file budget end told told
+not_back files input file bundle budget stop.NoMemory end told l b e a = absurd (subst (λ x. IsAnswer (status_of x)) e a)
+not_back files input file bundle budget stop.TooLong end told l b e a = subst (λ x. ExecWith files input file budget x told told) (sym e) ([], ((bundle, l, b), refl), sym (appended_none told))

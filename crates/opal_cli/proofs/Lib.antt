@@ -1,9 +1,12 @@
 pub mod Compiling
+pub mod Depths
 pub mod Executing
 pub mod Executed
 pub mod Inputs
 pub mod OneAnswer
+pub mod Readback
 pub mod Reports
 pub mod Running
 pub mod Scripts
 pub mod Simulation
+pub mod Spellings

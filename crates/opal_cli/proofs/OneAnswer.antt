@@ -8,21 +8,24 @@ use Rattle.opal_base.specs.declared.place.Pos.{Pos}
 use Rattle.ruby_meaning.specs.declared.bundle.Bundle.{Bundle}
 use Rattle.ruby_meaning.specs.Laws.{OneLoad}
 use Rattle.ruby_meaning.specs.Load.{Loaded, Loads, Whole, Missing, Refused}
-use Rattle.es5_tree.specs.declared.small.Script.{Script}
-use Rattle.es5_tree.specs.State.{Text}
-use Rattle.es5_tree.specs.Run.{EsEnd, Finished, Uncaught, Outside, cells_at}
-use Rattle.es5_tree.specs.Laws.{CellsGrow, OnePlace, NeverBoth, OneRead, ReadSpells}
-use Rattle.es5_tree.specs.Spells.{EsSpells, Reads}
-use Rattle.es5_tree.specs.Text.{text_of}
-use Rattle.es5_machine.specs.declared.end.OutKind.{OutKind as Kind}
-use Rattle.es5_machine.specs.declared.end.OutKind.TheVariants as kind
-use Rattle.es5_machine.specs.Run.{kind_of}
+use Rattle.es5_tree.specs.declared.tree.Script.{Script}
+use Rattle.es5_tree.specs.Values.{Text}
+use Rattle.es5_tree.specs.Ends.{EsEnd, Finished, Uncaught, Outside}
+use Rattle.es5_tree.specs.Depth.{script_depth}
+use Rattle.es5_tree.specs.Grammar.Laws.{OnePlace, NotScriptOrRead, OneRead}
+use Rattle.es5_tree.specs.Grammar.Spelling.{Reads}
+use Rattle.es5_evaluation.specs.Run.{cells_at}
+use Rattle.es5_evaluation.specs.Laws.{CellsGrow}
+use Rattle.es5_printer.specs.Text.{text_of}
+use Rattle.es5_host.specs.declared.answer.OutKind.{OutKind as Kind}
+use Rattle.es5_host.specs.declared.answer.OutKind.TheVariants as kind
+use Rattle.es5_host.specs.Values.{out_of}
 use Rattle.opal_cli.specs.declared.words.Budget.{Budget}
 use Rattle.opal_cli.specs.Words.{Compile, Check, Run, Exec}
 use Rattle.opal_cli.specs.Ends.{End, Wrote, UncaughtBy, RefusedAt, MissingFile, OutsideAt, StepsOver, CellsOver, NoScript, BadInputAt, TextTooLong}
 use Rattle.opal_cli.specs.Translation.{script_of}
 use Rattle.opal_cli.specs.Execution.{Stands, Fills, RunsTo, IsInput, IsBadInput, RunAnswers, IsNoScript, HasScript, FileAnswers, HasProgram, IsTooLong, ExecAnswers}
-use Rattle.opal_cli.specs.Answers.{end_of_load}
+use Rattle.opal_cli.specs.Answers.{CompileAnswers, end_of_load}
 use Rattle.opal_cli.specs.Laws.{OneAnswer}
 
 -- ---- runs
@@ -31,10 +34,10 @@ use Rattle.opal_cli.specs.Laws.{OneAnswer}
 abbrev EndsLike : End → EsEnd → Type 0
 EndsLike Wrote Finished = Unit {0}
 EndsLike (UncaughtBy name message) (Uncaught other text) = (name ≡ other) × (message ≡ text)
-EndsLike (OutsideAt k pos) (Outside other there) = (kind_of k ≡ other) × (pos ≡ there)
+EndsLike (OutsideAt k pos) (Outside other there) = (out_of k ≡ other) × (pos ≡ there)
 EndsLike _ _ = ⊥
 
-same_kind : (k l : Kind) → kind_of k ≡ kind_of l → k ≡ l
+same_kind : (k l : Kind) → out_of k ≡ out_of l → k ≡ l
 same_kind kind.Number kind.Number e = refl
 same_kind kind.Number kind.Division e = cc
 same_kind kind.Number kind.Conversion e = cc
@@ -74,7 +77,7 @@ data RunCase (script : Script) (text : Text) (budget : Budget) (end : End) : Typ
 run_case : (script : Script) (text : Text) (budget : Budget) (end : End) (output : List ℕ) → RunsTo script text budget end output → RunCase script text budget end
 run_case script text budget Wrote output r = ends output Finished tt r
 run_case script text budget (UncaughtBy name message) output r = ends output (Uncaught name message) (refl, refl) r
-run_case script text budget (OutsideAt k pos) output r = ends output (Outside (kind_of k) pos) (refl, refl) r
+run_case script text budget (OutsideAt k pos) output r = ends output (Outside (out_of k) pos) (refl, refl) r
 run_case script text budget (StepsOver steps) output r = goes output (ap StepsOver r.0) r.1
 run_case script text budget (CellsOver cells) output r = fills output (ap CellsOver r.0) r.1
 run_case script text budget end output r = absurd r
@@ -155,17 +158,17 @@ none_one one bytes pos other (inl a) (inr b) = absurd (omega (arith, a.0, b.0))
 none_one one bytes pos other (inr a) (inl b) = absurd (omega (arith, a.0, b.0))
 none_one one bytes pos other (inr a) (inr b) = a.1 ∙ sym b.1
 
-none_or_read : NeverBoth → ReadSpells → (files : FileMap) (file bytes : List ℕ) (pos : Pos) (script : Script) → files file ≡ Some bytes → IsNoScript bytes pos → HasScript files file script → ⊥
-none_or_read never spells files file bytes pos script e n h = go n
+none_or_read : NotScriptOrRead → (files : FileMap) (file bytes : List ℕ) (pos : Pos) (script : Script) → files file ≡ Some bytes → IsNoScript bytes pos → HasScript files file script → ⊥
+none_or_read never files file bytes pos script e n h = go n
   where
     same : h.bytes ≡ bytes
     same = same_bytes (files file) h.bytes bytes h.content e
 
     go : IsNoScript bytes pos → ⊥
-    go (inl a) = never script bytes pos (subst (λ b. EsSpells script b) same (spells h.bytes script h.is.reads)) a.1
+    go (inl a) = never bytes script pos (subst (λ b. Reads b script) same h.is.reads) h.is.shallow a.1
     go (inr a) = let l = h.is.short in let q = ap length same in omega (arith, a.0, l, q)
 
-module _ (grow : CellsGrow) (apart : DecodedOrNot) (offsets : OneOffset) (texts : OneText) (place : OnePlace) (never : NeverBoth) (reads : OneRead) (spells : ReadSpells) where
+module _ (grow : CellsGrow) (apart : DecodedOrNot) (offsets : OneOffset) (texts : OneText) (place : OnePlace) (never : NotScriptOrRead) (reads : OneRead) where
   one_file : (files : FileMap) (input : List ℕ) (file : List ℕ) (budget : Budget) (end other : End) → FileCase files input file budget end → FileCase files input file budget other → end ≡ other
   one_file files input file budget end other (absent d a) (absent e b) = d ∙ sym e
   one_file files input file budget end other (absent d a) (none pos bytes e b n) = let q : None ≡ Some bytes = sym a ∙ b in cc
@@ -173,9 +176,9 @@ module _ (grow : CellsGrow) (apart : DecodedOrNot) (offsets : OneOffset) (texts 
   one_file files input file budget end other (none pos bytes e b n) (absent d a) = let q : None ≡ Some bytes = sym a ∙ b in cc
   one_file files input file budget end other (none pos bytes d a n) (none there more e b m) =
       d ∙ ap (NoScript file) (none_one place more pos there (subst (λ x. IsNoScript x pos) (same_bytes (files file) bytes more a b) n) m) ∙ sym e
-  one_file files input file budget end other (none pos bytes d a n) (read script output h r) = absurd (none_or_read never spells files file bytes pos script a n h)
+  one_file files input file budget end other (none pos bytes d a n) (read script output h r) = absurd (none_or_read never files file bytes pos script a n h)
   one_file files input file budget end other (read script output h r) (absent d a) = let q : None ≡ Some h.bytes = sym a ∙ h.content in cc
-  one_file files input file budget end other (read script output h r) (none pos bytes d a n) = absurd (none_or_read never spells files file bytes pos script a n h)
+  one_file files input file budget end other (read script output h r) (none pos bytes d a n) = absurd (none_or_read never files file bytes pos script a n h)
   one_file files input file budget end other (read script output h r) (read again more i s) =
       let e = reads i.bytes script again (subst (λ b. Reads b script) (same_bytes (files file) h.bytes i.bytes h.content i.content) h.is.reads) i.is.reads in
       one_run_answer grow apart offsets texts input again budget end other output more (subst (λ x. RunAnswers (Some input) x budget end output) e r) s
@@ -205,34 +208,60 @@ same_bundle a b e = cc
 loaded_or_not : OneLoad → (files : FileMap) (file : List ℕ) (loaded : Loaded) (bundle : Bundle) → Loads files file loaded → IsUnloaded loaded → Loads files file (Whole bundle) → ⊥
 loaded_or_not one files file loaded bundle l u w = subst IsUnloaded (one files file loaded (Whole bundle) l w) u
 
-module _ (grow : CellsGrow) (apart : DecodedOrNot) (offsets : OneOffset) (texts : OneText) (reads : OneRead) (one : OneLoad) where
+module _ (one : OneLoad) where
   bundle_one : (files : FileMap) (file : List ℕ) (a b : Bundle) → Loads files file (Whole a) → Loads files file (Whole b) → a ≡ b
   bundle_one files file a b l m = same_bundle a b (one files file (Whole a) (Whole b) l m)
 
   short_or_long : (files : FileMap) (file : List ℕ) (a b : Bundle) → Loads files file (Whole a) → IsTooLong a → Loads files file (Whole b) → length (text_of (script_of b)) < 2 ^ 31 → ⊥
   short_or_long files file a b l t m s = let u : IsTooLong b = subst IsTooLong (bundle_one files file a b l m) t in omega (arith, u, s)
 
+module _ (grow : CellsGrow) (apart : DecodedOrNot) (offsets : OneOffset) (texts : OneText) (reads : OneRead) (one : OneLoad) where
   one_exec : (files : FileMap) (input : List ℕ) (file : List ℕ) (budget : Budget) (end other : End) → ExecCase files input file budget end → ExecCase files input file budget other → end ≡ other
   one_exec files input file budget end other (unloaded a l u d) (unloaded b m v e) = d ∙ ap end_of_load (one files file a b l m) ∙ sym e
   one_exec files input file budget end other (unloaded a l u d) (long bundle e m t) = absurd (loaded_or_not one files file a bundle l u m)
   one_exec files input file budget end other (unloaded a l u d) (ran bundle script output p r) = absurd (loaded_or_not one files file a bundle l u p.loads)
   one_exec files input file budget end other (long bundle e m t) (unloaded a l u d) = absurd (loaded_or_not one files file a bundle l u m)
   one_exec files input file budget end other (long bundle d l t) (long again e m u) = d ∙ sym e
-  one_exec files input file budget end other (long bundle d l t) (ran again script output p r) = absurd (short_or_long files file bundle again l t p.loads p.program.short)
+  one_exec files input file budget end other (long bundle d l t) (ran again script output p r) = absurd (short_or_long one files file bundle again l t p.loads p.program.short)
   one_exec files input file budget end other (ran bundle script output p r) (unloaded a l u d) = absurd (loaded_or_not one files file a bundle l u p.loads)
-  one_exec files input file budget end other (ran again script output p r) (long bundle d l t) = absurd (short_or_long files file bundle again l t p.loads p.program.short)
+  one_exec files input file budget end other (ran again script output p r) (long bundle d l t) = absurd (short_or_long one files file bundle again l t p.loads p.program.short)
   one_exec files input file budget end other (ran bundle script output p r) (ran again more extra q s) =
-      let b = bundle_one files file bundle again p.loads q.loads in
+      let b = bundle_one one files file bundle again p.loads q.loads in
       let e = reads (text_of (script_of again)) script more (subst (λ x. Reads (text_of (script_of x)) script) b p.program.reads) q.program.reads in
       one_run_answer grow apart offsets texts input more budget end other output extra (subst (λ x. RunAnswers (Some input) x budget end output) e r) s
 
-pub one_answer_is : CellsGrow → DecodedOrNot → OneOffset → OneText → OnePlace → NeverBoth → OneRead → ReadSpells → OneLoad → OneAnswer
-one_answer_is grow apart offsets texts place never reads spells one files input None end other output more a b = a.0 ∙ sym b.0
-one_answer_is grow apart offsets texts place never reads spells one files input (Some (Compile file)) end other output more a b =
+-- ---- a compiled script
+
+data CompileCase (files : FileMap) (file : List ℕ) (end : End) : Type 0 where
+  failed : (loaded : Loaded) → Loads files file loaded → IsUnloaded loaded → end ≡ end_of_load loaded → CompileCase files file end
+  over : (bundle : Bundle) → end ≡ TextTooLong → Loads files file (Whole bundle) → IsTooLong bundle → CompileCase files file end
+  wrote : (bundle : Bundle) → end ≡ Wrote → Loads files file (Whole bundle) → length (text_of (script_of bundle)) < 2 ^ 31 → CompileCase files file end
+
+compile_case : (files : FileMap) (file : List ℕ) (end : End) (output : List ℕ) → CompileAnswers files file end output → CompileCase files file end
+compile_case files file (MissingFile name) output r = failed (Missing name) r.0 tt refl
+compile_case files file (RefusedAt name pos construct) output r = failed (Refused name pos construct) r.0 tt refl
+compile_case files file TextTooLong output r = over r.0.0 refl r.0.1 r.0.2
+compile_case files file Wrote output r = wrote r.0 refl r.1 (subst (λ text. length text < 2 ^ 31) r.3 r.2)
+compile_case files file end output r = absurd r
+
+one_compile : OneLoad → (files : FileMap) (file : List ℕ) (end other : End) → CompileCase files file end → CompileCase files file other → end ≡ other
+one_compile one files file end other (failed a l u d) (failed b m v e) = d ∙ ap end_of_load (one files file a b l m) ∙ sym e
+one_compile one files file end other (failed a l u d) (over bundle e m t) = absurd (loaded_or_not one files file a bundle l u m)
+one_compile one files file end other (failed a l u d) (wrote bundle e m s) = absurd (loaded_or_not one files file a bundle l u m)
+one_compile one files file end other (over bundle e m t) (failed a l u d) = absurd (loaded_or_not one files file a bundle l u m)
+one_compile one files file end other (over bundle d l t) (over again e m u) = d ∙ sym e
+one_compile one files file end other (over bundle d l t) (wrote again e m s) = absurd (short_or_long one files file bundle again l t m s)
+one_compile one files file end other (wrote bundle e m s) (failed a l u d) = absurd (loaded_or_not one files file a bundle l u m)
+one_compile one files file end other (wrote again e m s) (over bundle d l t) = absurd (short_or_long one files file bundle again l t m s)
+one_compile one files file end other (wrote bundle d l s) (wrote again e m t) = d ∙ sym e
+
+pub one_answer_is : CellsGrow → DecodedOrNot → OneOffset → OneText → OnePlace → NotScriptOrRead → OneRead → OneLoad → OneAnswer
+one_answer_is grow apart offsets texts place never reads one files input None end other output more a b = a.0 ∙ sym b.0
+one_answer_is grow apart offsets texts place never reads one files input (Some (Compile file)) end other output more a b =
+    one_compile one files file end other (compile_case files file end output a) (compile_case files file other more b)
+one_answer_is grow apart offsets texts place never reads one files input (Some (Check file)) end other output more a b =
     a.2 ∙ ap end_of_load (one files file a.0 b.0 a.1 b.1) ∙ sym b.2
-one_answer_is grow apart offsets texts place never reads spells one files input (Some (Check file)) end other output more a b =
-    a.2 ∙ ap end_of_load (one files file a.0 b.0 a.1 b.1) ∙ sym b.2
-one_answer_is grow apart offsets texts place never reads spells one files input (Some (Run file budget)) end other output more a b =
-    one_file grow apart offsets texts place never reads spells files input file budget end other (file_case files input file budget end output a) (file_case files input file budget other more b)
-one_answer_is grow apart offsets texts place never reads spells one files input (Some (Exec file budget)) end other output more a b =
+one_answer_is grow apart offsets texts place never reads one files input (Some (Run file budget)) end other output more a b =
+    one_file grow apart offsets texts place never reads files input file budget end other (file_case files input file budget end output a) (file_case files input file budget other more b)
+one_answer_is grow apart offsets texts place never reads one files input (Some (Exec file budget)) end other output more a b =
     one_exec grow apart offsets texts reads one files input file budget end other (exec_case files input file budget end output a) (exec_case files input file budget other more b)

@@ -4,14 +4,15 @@ use Rattle.std.proofs.lemmas.List.{append-nil}
 use Rattle.opal_base.specs.Outside.{appended}
 use Rattle.opal_base.specs.Shown.{Ended, Going}
 use Rattle.opal_base.proofs.Took.{appended_none}
-use Rattle.es5_tree.specs.declared.small.Script.{Script}
-use Rattle.es5_tree.specs.declared.small.EsStmt.{EsStmt}
-use Rattle.es5_tree.specs.State.{Text, first_state}
-use Rattle.es5_tree.specs.Task as task
-use Rattle.es5_tree.specs.Task.{run}
-use Rattle.es5_tree.specs.Eval.{all, exec_to}
-use Rattle.es5_tree.specs.Run.{EsEnd, Finished, Uncaught, Outside, es_run, shown, global_scope, cells_at}
-use Rattle.es5_machine.specs.Run.{Ran, HasRun, Keeps, started, output, output_at, kind_of, IsFront, Pieces, FrontPieces, Ends, GoesOn, Fills, Tells}
+use Rattle.es5_tree.specs.declared.tree.Script.{Script}
+use Rattle.es5_tree.specs.declared.tree.EsStmt.{EsStmt}
+use Rattle.es5_tree.specs.Values.{Text}
+use Rattle.es5_tree.specs.Ends.{EsEnd, Finished, Uncaught, Outside}
+use Rattle.es5_evaluation.specs.Task.{walk}
+use Rattle.es5_evaluation.specs.Evaluate.{all}
+use Rattle.es5_evaluation.specs.Run.{ask, run, outcome, es_run, shown_by, script_scope, first_state, cells_at}
+use Rattle.es5_host.specs.Values.{out_of}
+use Rattle.es5_machine.specs.Run.{Ran, HasRun, Keeps, started, output, output_at, IsFront, Pieces, FrontPieces, Ends, GoesOn, Fills, Tells}
 use Rattle.es5_machine.specs.declared.end.RunEnd.{RunEnd}
 use Rattle.es5_machine.specs.declared.end.RunEnd.TheVariants as run_end
 use Rattle.opal_cli.specs.declared.words.Budget.{Budget}
@@ -20,14 +21,14 @@ use Rattle.opal_cli.specs.Execution as job
 use Rattle.opal_cli.specs.Execution.{Stands, RanTo, TookRun, end_of_run}
 
 -- nothing is written without a step
-no_output : (body : List EsStmt) (input : Text) → output (shown (run (all (exec_to 0) body global_scope) (first_state input) 0)) ≡ []
-unfolding run all task.◌>>=◌ exec_to
-no_output [] input = refl
-no_output (t ∷ ts) input = refl
+no_output : (script : Script) (body : List EsStmt) (input : Text) → output (shown_by (run 0 (all body script_scope) (first_state script input))) ≡ []
+unfolding run walk ask all first_state
+no_output script [] input = refl
+no_output script (t ∷ ts) input = refl
 
 pub nothing_yet : (script : Script) (input : Text) → output_at script input 0 ≡ []
-unfolding es_run
-nothing_yet script input = no_output script.body input
+unfolding es_run outcome
+nothing_yet script input = no_output script script.body input
 
 -- the budget with the machine's cells
 abbrev pub budget_with : ℕ → Ran → Budget
@@ -82,7 +83,7 @@ pub ran : (m : Ran) (n : ℕ) (end : RunEnd) (old new : Option (List ℕ)) → m
     → IsAnswer (status_of (end_of_run (budget_with n m) end)) → RanTo m.script m.input (budget_with n m) (end_of_run (budget_with n m) end) old new
 ran m n run_end.Finished old new l begun t a = ended m n Finished old new l t.0 t.1
 ran m n (run_end.Uncaught name message) old new l begun t a = ended m n (Uncaught name message) old new l t.0 t.1
-ran m n (run_end.Outside kind pos) old new l begun t a = ended m n (Outside (kind_of kind) pos) old new l t.0 t.1
+ran m n (run_end.Outside kind pos) old new l begun t a = ended m n (Outside (out_of kind) pos) old new l t.0 t.1
 ran m n run_end.OutOfSteps old new l begun t a = let r = goes_on m n old new (begun refl) t.0 t.1 in (r.0, (refl, r.1), r.2)
 ran m n run_end.CellsFull old new l begun t a = let r = fills m n old new l t in (r.0, (refl, r.1), r.2)
 ran m n run_end.WriteFault old new l begun t a = absurd a

@@ -6,7 +6,7 @@ use Rattle.std.specs.Option.{option_map}
 use Rattle.std.specs.declared.option.Option.{Option}
 use Rattle.opal_base.specs.declared.place.Pos.{Pos}
 use Rattle.opal_base.specs.Outside.{FileMap}
-use Rattle.es5_tree.specs.declared.small.Script.{Script}
+use Rattle.es5_tree.specs.declared.tree.Script.{Script}
 use Rattle.opal_cli.specs.declared.script.ScriptFault.{ScriptFault}
 use Rattle.opal_cli.specs.declared.script.ScriptFault.TheVariants as fault
 use Rattle.opal_cli.specs.Execution.{IsScript, IsNoScript, ReadsScript, ScriptIn}

@@ -11,11 +11,11 @@ use Rattle.ruby_meaning.specs.Puts.{putting}
 use Rattle.ruby_meaning.specs.Run.{RubyEnd, ruby_run}
 use Rattle.ruby_meaning.specs.Run as ruby
 use Rattle.ruby_meaning.specs.Laws.{OnlyPuts, PutsInTurn}
-use Rattle.es5_tree.specs.declared.small.Script.{Script}
-use Rattle.es5_tree.specs.Task.{OutKind, Number}
-use Rattle.es5_tree.specs.Run.{EsEnd, es_run}
-use Rattle.es5_tree.specs.Run as es
-use Rattle.es5_tree.specs.Laws.{WritesInTurn}
+use Rattle.es5_tree.specs.declared.tree.Script.{Script}
+use Rattle.es5_tree.specs.Ends.{OutKind, Number}
+use Rattle.es5_tree.specs.Ends as es
+use Rattle.es5_evaluation.specs.Run.{es_run}
+use Rattle.es5_laws.specs.Laws.{WritesInTurn}
 use Rattle.opal_cli.specs.Agree.{SameEnd, Agree}
 use Rattle.opal_cli.specs.Translation.{script_of}
 use Rattle.opal_cli.specs.Laws.{Agreement}

@@ -4,10 +4,10 @@ use Rattle.opal_base.specs.Shown.{Ended, Going, Shows}
 use Rattle.ruby_meaning.specs.declared.bundle.Bundle.{Bundle}
 use Rattle.ruby_meaning.specs.Run.{RubyEnd, ruby_run}
 use Rattle.ruby_meaning.specs.Run as ruby
-use Rattle.es5_tree.specs.declared.small.Script.{Script}
-use Rattle.es5_tree.specs.Task.{OutKind, Number}
-use Rattle.es5_tree.specs.Run.{EsEnd, es_run}
-use Rattle.es5_tree.specs.Run as es
+use Rattle.es5_tree.specs.declared.tree.Script.{Script}
+use Rattle.es5_tree.specs.Ends.{EsEnd, OutKind, Number}
+use Rattle.es5_tree.specs.Ends as es
+use Rattle.es5_evaluation.specs.Run.{es_run}
 use Rattle.opal_base.specs.declared.place.Pos.{Pos}
 
 -- the same end; a number outside the range is the same at any place

@@ -1,17 +1,17 @@
 -- What a call of the program answers, and what out and err take of it.
-use Rattle.std.specs.Prelude.{◌≡◌, ◌≢◌, ◌⊎◌, ◌≤◌, ℕ, List, [], length, take, None, Some, codes, ⊤}
+use Rattle.std.specs.Prelude.{◌≡◌, ◌≢◌, ◌⊎◌, ◌≤◌, ◌<◌, ◌^◌, ℕ, List, [], length, take, None, Some, codes, ⊤}
 use Rattle.std.specs.declared.option.Option.{Option}
 use Rattle.opal_base.specs.Outside.{FileMap, Rose, appended, TookFront}
 use Rattle.ruby_meaning.specs.declared.bundle.Bundle.{Bundle}
 use Rattle.ruby_meaning.specs.Load.{Loaded, Whole, Missing, Refused, Loads}
-use Rattle.es5_tree.specs.Text.{text_of}
+use Rattle.es5_printer.specs.Text.{text_of}
 use Rattle.opal_cli.specs.declared.status.Status.{Status}
 use Rattle.opal_cli.specs.declared.status.Status.TheVariants as status
 use Rattle.opal_cli.specs.Words.{Asked, Compile, Check, Run, Exec}
-use Rattle.opal_cli.specs.Execution.{FileAnswers, ExecAnswers, TookFileFront, TookExecFront}
+use Rattle.opal_cli.specs.Execution.{IsTooLong, FileAnswers, ExecAnswers, TookFileFront, TookExecFront}
 use Rattle.opal_cli.specs.Translation.{script_of}
 use Rattle.opal_cli.specs.Headline.{Compiles}
-use Rattle.opal_cli.specs.Ends.{End, Wrote, Unread, RefusedAt, MissingFile, WriteFailed, OutOfMemory, status_of, line_of, IsAnswer}
+use Rattle.opal_cli.specs.Ends.{End, Wrote, Unread, RefusedAt, MissingFile, TextTooLong, WriteFailed, OutOfMemory, status_of, line_of, IsAnswer}
 
 -- ---- the answer to the words
 
@@ -41,10 +41,21 @@ LoadAnswers f files file end output = (loaded : Loaded) × Loads files file load
 abbrev pub LoadWith : (Bundle → List ℕ) → FileMap → List ℕ → End → Option (List ℕ) → Option (List ℕ) → Type 0
 LoadWith f files file end old new = (output : List ℕ) × LoadAnswers f files file end output × (new ≡ appended old output)
 
+-- Over these files compiling this one ends so, with this output. The text of the script has fewer than 2^31 bytes, or isn't written.
+abbrev pub CompileAnswers : FileMap → List ℕ → End → List ℕ → Type 0
+CompileAnswers files file Wrote output = (bundle : Bundle) × Loads files file (Whole bundle) × (length output < 2 ^ 31) × (output ≡ script_text bundle)
+CompileAnswers files file (MissingFile name) output = Loads files file (Missing name) × (output ≡ [])
+CompileAnswers files file (RefusedAt name pos construct) output = Loads files file (Refused name pos construct) × (output ≡ [])
+CompileAnswers files file TextTooLong output = ((bundle : Bundle) × Loads files file (Whole bundle) × IsTooLong bundle) × (output ≡ [])
+CompileAnswers files file _ output = ⊥
+
+abbrev pub CompileWith : FileMap → List ℕ → End → Option (List ℕ) → Option (List ℕ) → Type 0
+CompileWith files file end old new = (output : List ℕ) × CompileAnswers files file end output × (new ≡ appended old output)
+
 -- over these files and this input the words are answered so, with this output
 abbrev pub Answers : FileMap → Option (List ℕ) → Option Asked → End → List ℕ → Type 0
 Answers files input None end output = (end ≡ Unread) × (output ≡ [])
-Answers files input (Some (Compile file)) end output = LoadAnswers script_text files file end output
+Answers files input (Some (Compile file)) end output = CompileAnswers files file end output
 Answers files input (Some (Check file)) end output = LoadAnswers ok_line files file end output
 Answers files input (Some (Run file budget)) end output = FileAnswers files input file budget end output
 Answers files input (Some (Exec file budget)) end output = ExecAnswers files input file budget end output

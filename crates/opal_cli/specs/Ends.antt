@@ -5,8 +5,8 @@ use Rattle.opal_base.specs.declared.place.Pos.{Pos}
 use Rattle.opal_base.specs.Text.{utf8_of}
 use Rattle.ruby_meaning.specs.declared.construct.Construct.{Construct}
 use Rattle.ruby_meaning.specs.Constructs.{construct_name}
-use Rattle.es5_machine.specs.declared.end.OutKind.{OutKind}
-use Rattle.es5_machine.specs.declared.end.OutKind.TheVariants as kind
+use Rattle.es5_host.specs.declared.answer.OutKind.{OutKind}
+use Rattle.es5_host.specs.declared.answer.OutKind.TheVariants as kind
 use Rattle.opal_cli.specs.declared.status.Status.{Status}
 use Rattle.opal_cli.specs.declared.status.Status.TheVariants as status
 use Rattle.opal_cli.specs.declared.outcome.Outcome.{Outcome}

@@ -11,19 +11,22 @@ use Rattle.ruby_meaning.specs.declared.bundle.Bundle.{Bundle}
 use Rattle.ruby_meaning.specs.Run as ruby
 use Rattle.ruby_meaning.specs.Run.{ruby_run}
 use Rattle.ruby_meaning.specs.Load.{Loads, Whole, Missing, Refused}
-use Rattle.es5_tree.specs.declared.small.Script.{Script}
-use Rattle.es5_tree.specs.Spells.{EsSpells, Reads, IsNotScript}
-use Rattle.es5_tree.specs.State.{Text}
-use Rattle.es5_tree.specs.Text.{text_of}
-use Rattle.es5_tree.specs.Run.{EsEnd, Finished, Uncaught, Outside, es_run, cells_at}
+use Rattle.es5_tree.specs.declared.tree.Script.{Script}
+use Rattle.es5_tree.specs.Depth.{script_depth}
+use Rattle.es5_tree.specs.Grammar.Spelling.{EsSpells, Reads, IsNotScript, limit}
+use Rattle.es5_tree.specs.Values.{Text}
+use Rattle.es5_tree.specs.Ends.{EsEnd, Finished, Uncaught, Outside}
+use Rattle.es5_evaluation.specs.Run.{es_run, cells_at}
+use Rattle.es5_host.specs.Values.{out_of}
+use Rattle.es5_printer.specs.Text.{text_of}
+use Rattle.es5_printer.specs.declared.script.PrintStop.{PrintStop}
+use Rattle.es5_printer.specs.declared.script.PrintStop.TheVariants as stop
 use Rattle.es5_machine.specs.declared.end.RunEnd.{RunEnd}
 use Rattle.es5_machine.specs.declared.end.RunEnd.TheVariants as run_end
-use Rattle.es5_machine.specs.Run.{IsFront, output_at, kind_of}
+use Rattle.es5_machine.specs.Run.{IsFront, output_at}
 use Rattle.opal_cli.specs.declared.words.Budget.{Budget}
 use Rattle.opal_cli.specs.declared.input.InputFault.{InputFault}
 use Rattle.opal_cli.specs.declared.input.InputFault.TheVariants as in_fault
-use Rattle.opal_cli.specs.declared.exec.BackFault.{BackFault}
-use Rattle.opal_cli.specs.declared.exec.BackFault.TheVariants as back
 use Rattle.opal_cli.specs.declared.script.ScriptFault.{ScriptFault}
 use Rattle.opal_cli.specs.declared.script.ScriptFault.TheVariants as script_fault
 use Rattle.opal_cli.specs.Agree.{Agree}
@@ -40,10 +43,11 @@ most_input = 16777216
 
 -- ---- the script of a file
 
--- the bytes spell the script, with its places
+-- the bytes spell the script, with its places and within the limit of depth
 pub record IsScript (bytes : List ℕ) (script : Script) : Type 0 where
   pub short : length bytes ≤ most_script
   pub reads : Reads bytes script
+  pub shallow : script_depth script ≤ limit
 
 -- the file's bytes are of this script
 pub record HasScript (files : FileMap) (file : List ℕ) (script : Script) : Type 0 where
@@ -85,7 +89,7 @@ pub record Fills (script : Script) (input : Text) (budget : Budget) (output : Li
 abbrev pub RunsTo : Script → Text → Budget → End → List ℕ → Type 0
 RunsTo script input budget Wrote output = Stands script input budget (Ended output Finished)
 RunsTo script input budget (UncaughtBy name message) output = Stands script input budget (Ended output (Uncaught name message))
-RunsTo script input budget (OutsideAt kind pos) output = Stands script input budget (Ended output (Outside (kind_of kind) pos))
+RunsTo script input budget (OutsideAt kind pos) output = Stands script input budget (Ended output (Outside (out_of kind) pos))
 RunsTo script input budget (StepsOver steps) output = (steps ≡ budget.steps) × Stands script input budget (Going output)
 RunsTo script input budget (CellsOver cells) output = (cells ≡ budget.cells) × Fills script input budget output
 RunsTo script input budget _ output = ⊥
@@ -214,14 +218,10 @@ TookExecFront files input file budget old new = (new ≡ old) ⊎ ((bundle : Bun
 
 -- ---- what a call does
 
-abbrev pub end_of_back : BackFault → End
-end_of_back back.NoMemory = OutOfMemory
-end_of_back back.TooLong = TextTooLong
-
-abbrev pub ReadBack : Bundle → Result Script BackFault → Type 0
+abbrev pub ReadBack : Bundle → Result Script PrintStop → Type 0
 ReadBack bundle (Ok script) = IsProgram bundle script
-ReadBack bundle (Err back.NoMemory) = ⊤
-ReadBack bundle (Err back.TooLong) = IsTooLong bundle
+ReadBack bundle (Err stop.NoMemory) = ⊤
+ReadBack bundle (Err stop.TooLong) = IsTooLong bundle
 
 abbrev pub end_of_input : InputFault → End
 end_of_input in_fault.NoMemory = OutOfMemory

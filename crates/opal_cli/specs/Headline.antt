@@ -4,8 +4,8 @@ use Rattle.std.specs.declared.option.Option.{Option}
 use Rattle.opal_base.specs.Outside.{FileMap, appended}
 use Rattle.ruby_meaning.specs.declared.bundle.Bundle.{Bundle}
 use Rattle.ruby_meaning.specs.Load.{Loads, Whole}
-use Rattle.es5_tree.specs.Text.{text_of}
-use Rattle.es5_tree.specs.Spells.{EsSpells}
+use Rattle.es5_tree.specs.Grammar.Spelling.{EsSpells}
+use Rattle.es5_printer.specs.Text.{text_of}
 use Rattle.opal_cli.specs.Agree.{Agree}
 use Rattle.opal_cli.specs.Translation.{script_of}
 

@@ -4,9 +4,9 @@ use Rattle.std.specs.List.{AllByRecursion}
 use Rattle.ruby_meaning.specs.declared.bundle.Bundle.{Bundle}
 use Rattle.ruby_meaning.specs.Eval.{puts_text}
 use Rattle.ruby_meaning.specs.Puts.{putting}
-use Rattle.es5_tree.specs.declared.small.EsStmt.{EsStmt}
-use Rattle.es5_tree.specs.declared.small.Script.{Script}
-use Rattle.es5_tree.specs.Tree.{write, writes}
+use Rattle.es5_tree.specs.declared.tree.EsStmt.{EsStmt}
+use Rattle.es5_tree.specs.declared.tree.Script.{Script}
+use Rattle.es5_laws.specs.Writes.{write, writes}
 
 abbrev pub script_of : Bundle → Script
 script_of bundle = writes (map puts_text (putting bundle.main.program.body).texts)

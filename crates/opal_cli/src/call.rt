@@ -18,7 +18,8 @@ use crate::report::report;
 use crate::run::run;
 use crate::status::Status;
 use crate::words::{Command, read_words};
-use es5_tree::{one_read, one_script, sites_dont_matter};
+use es5_laws::sites_dont_matter;
+use es5_tree::bytes_spell_one;
 use opal_base::{Files, Sink, Source};
 use std::alloc::Global;
 
@@ -77,8 +78,7 @@ pub fn opal<F: Files, I: Source, O: Sink, E: Sink>(
     ensures later_out { O.faults out.old ≤ O.faults out.new }
     ensures later_err { E.faults err.old ≤ E.faults err.new }
 {
-    one_script();
-    one_read();
+    bytes_spell_one();
     sites_dont_matter();
     one_answer();
     let outcome = work(alloc, words, files, input, out);

@@ -3,23 +3,21 @@ ghost use Rattle.opal_base.specs.Outside.{Rose, FileMap, Missed};
 ghost use Rattle.ruby_meaning.specs.Load.{IsSound};
 ghost use Rattle.opal_cli.specs.Ends.{status_of, end_of, MissingFile, IsAnswer, IsSilent};
 ghost use Rattle.opal_cli.specs.Answers.{IsRun};
-ghost use Rattle.opal_cli.specs.Execution.{ExecWith, TookExecFront, ReadBack, end_of_back};
+ghost use Rattle.opal_cli.specs.Execution.{ExecWith, TookExecFront, ReadBack};
 
-use crate::compile::{script_text, unloaded};
+use crate::compile::{script_text, unloaded, unprinted};
 use crate::outcome::Outcome;
 use crate::run::run_on_input;
 use crate::status::Status;
 use crate::words::Budget;
+use es5_laws::same_depth;
 use es5_parser::read_script;
-use es5_tree::small::Script;
-use es5_tree::{EsStop, one_place};
-use opal_base::{Files, NoMemory, Sink, Source};
+use es5_printer::PrintStop;
+use es5_tree::{EsStop, Script, script_or_place};
+use opal_base::{Files, Sink, Source};
 use require_bundles::load;
 use ruby_meaning::Bundle;
 use std::alloc::Global;
-
-/// A script's text is shorter than this, in bytes.
-const MOST_BYTES: usize = 2_147_483_648;
 
 /// Compiles the program of a file, reads its script back and runs it on the input.
 pub fn exec<'a, F: Files, I: Source, O: Sink>(
@@ -52,42 +50,24 @@ pub fn exec<'a, F: Files, I: Source, O: Sink>(
     };
     match script_back(alloc, &bundle) {
         Ok(script) => run_on_input(alloc, script, budget, input, out),
-        Err(fault) => not_read_back(fault),
-    }
-}
-
-// Why the script of a bundle was not read back.
-#[derive(Clone, Copy, Debug, PartialEq, Eq)]
-pub enum BackFault {
-    NoMemory,
-    TooLong,
-}
-
-fn not_read_back(fault: BackFault) -> Outcome<'static>
-    ensures { end_of result ≡ end_of_back fault }
-{
-    match fault {
-        BackFault::NoMemory => Outcome::NoMemory,
-        BackFault::TooLong => Outcome::TooLong,
+        Err(stop) => unprinted(stop),
     }
 }
 
 // The script of a bundle, printed and read back.
-fn script_back(alloc: Global, bundle: &Bundle) -> Result<Script, BackFault>
+fn script_back(alloc: Global, bundle: &Bundle) -> Result<Script, PrintStop>
     requires { IsSound bundle.now }
     ensures { ReadBack bundle.now result }
 {
+    script_or_place();
+    same_depth();
     let text = match script_text(alloc, bundle) {
         Ok(text) => text,
-        Err(NoMemory) => return Err(BackFault::NoMemory),
+        Err(stop) => return Err(stop),
     };
-    one_place();
-    if text.len() >= MOST_BYTES {
-        return Err(BackFault::TooLong);
-    }
     match read_script(alloc, text.as_slice()) {
         Ok(script) => Ok(script),
-        Err(EsStop::NoMemory) => Err(BackFault::NoMemory),
+        Err(EsStop::NoMemory) => Err(PrintStop::NoMemory),
         Err(EsStop::NotScript { pos: _ }) => unreachable!(),
     }
 }

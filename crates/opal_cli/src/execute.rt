@@ -7,7 +7,7 @@ use crate::outcome::Outcome;
 use crate::status::Status;
 use crate::words::Budget;
 use es5_machine::{Machine, RunEnd};
-use es5_tree::small::Script;
+use es5_tree::Script;
 use opal_base::{Sink, Units};
 use std::alloc::Global;
 

@@ -1,6 +1,8 @@
 ghost use Rattle.opal_cli.specs.Laws.{Agreement, OneAnswer};
 
-use es5_tree::{cells_grow, one_place, one_read, writes_in_turn};
+use es5_evaluation::cells_grow;
+use es5_laws::writes_in_turn;
+use es5_tree::{bytes_spell_one, script_or_place};
 use opal_base::{decoded_or_not, one_offset, one_text};
 use ruby_meaning::{one_load, only_puts, puts_in_turn};
 
@@ -19,8 +21,8 @@ pub fn one_answer()
     ensures { OneAnswer }
 {
     cells_grow();
-    one_place();
-    one_read();
+    script_or_place();
+    bytes_spell_one();
     decoded_or_not();
     one_offset();
     one_text();

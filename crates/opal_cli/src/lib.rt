@@ -9,7 +9,6 @@ mod execute;
 mod input;
 mod laws;
 mod outcome;
-mod print;
 mod report;
 mod run;
 mod script;

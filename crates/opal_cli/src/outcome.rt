@@ -1,4 +1,4 @@
-use es5_machine::OutKind;
+use es5_host::OutKind;
 use opal_base::{Pos, Units};
 use ruby_meaning::Construct;
 

@@ -7,7 +7,7 @@ ghost use Rattle.opal_cli.specs.Answers.{TookFronts, Reported};
 
 use crate::outcome::Outcome;
 use crate::status::Status;
-use es5_machine::OutKind;
+use es5_host::OutKind;
 use opal_base::{Bytes, NoMemory, Pos, Sink, Units, units_to_utf8, write_all};
 use ruby_meaning::Construct;
 use std::alloc::{AllocError, Global};

@@ -10,7 +10,7 @@ use crate::outcome::Outcome;
 use crate::script::{ScriptFault, script_in};
 use crate::status::Status;
 use crate::words::Budget;
-use es5_tree::small::Script;
+use es5_tree::Script;
 use opal_base::{Files, Sink, Source};
 use std::alloc::Global;
 

@@ -3,8 +3,7 @@ ghost use Rattle.opal_base.specs.Outside.{Rose, FileMap, Missed};
 ghost use Rattle.opal_cli.specs.Execution.{ScriptIn, ReadsScript};
 
 use es5_parser::read_script;
-use es5_tree::EsStop;
-use es5_tree::small::Script;
+use es5_tree::{EsStop, Script};
 use opal_base::{FileFault, Files, Pos};
 use std::alloc::Global;
 

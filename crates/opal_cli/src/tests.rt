@@ -422,19 +422,258 @@ fn scripts_and_programs_are_run(rt: HostRuntime) -> Result<(), Fail> {
             b"missing: other.rb\n",
         ),
     ];
-    for (words, file, input, code, out, err) in rows {
+    assert_eq!(rt; first_wrong(&rt, &rows)?, None);
+    Ok(())
+}
+
+// The number of the first row whose call ends or writes otherwise, with an out that takes a byte a
+// call or all of it.
+fn first_wrong(rt: &HostRuntime, rows: &[Row<'_>]) -> Result<Option<usize>, Fail> {
+    for (i, (words, file, input, code, out, err)) in rows.iter().enumerate() {
         for out_most in [1, 4096] {
             let call = Call {
                 input,
                 out_most,
                 ..Call::of(words, file)
             };
-            let (status, written, told) = call.ran(&rt)?;
-            assert_eq!(rt; status.code(), code);
-            assert_eq!(rt; written.as_slice(), out);
-            assert_eq!(rt; told.as_slice(), err);
+            let (status, written, told) = call.ran(rt)?;
+            if status.code() != *code || written.as_slice() != *out || told.as_slice() != *err {
+                return Ok(Some(i));
+            }
         }
     }
+    Ok(None)
+}
+
+#[test]
+fn whole_scripts_are_run(rt: HostRuntime) -> Result<(), Fail> {
+    let rows: [Row<'_>; 12] = [
+        (
+            &["run", "x.js"],
+            b"'use strict';\nvar i = 0;\nwhile (i < 3) { $host.write(i + ';'); i = i + 1; }",
+            b"",
+            0,
+            b"0;1;2;",
+            b"",
+        ),
+        (
+            &["run", "x.js"],
+            b"'use strict';\nvar f = function g(n) { if (n < 2) return 1; return n * g(n - 1); };\n$host.write('' + f(5));",
+            b"",
+            0,
+            b"120",
+            b"",
+        ),
+        (
+            &["run", "x.js"],
+            b"'use strict';\nvar make = function () { var n = 0; return function () { n = n + 1; return n; }; };\nvar next = make();\nnext();\n$host.write('' + next());",
+            b"",
+            0,
+            b"2",
+            b"",
+        ),
+        (
+            &["run", "x.js"],
+            b"'use strict';\nvar a = [3, 1];\na.push(2);\nvar o = Object.create({ x: 'p' });\n$host.write(a.length + o.x + typeof a[9]);",
+            b"",
+            0,
+            b"3pundefined",
+            b"",
+        ),
+        (
+            &["run", "x.js"],
+            b"'use strict';\nvar l = $host.line();\nwhile (l !== null) { $host.write('> ' + l); l = $host.line(); }",
+            b"a\nb",
+            0,
+            b"> a\n> b",
+            b"",
+        ),
+        (
+            &["run", "x.js"],
+            b"'use strict';\ntry { throw { message: 'm' }; } catch (e) { $host.write(e.message); } finally { $host.write('!'); }",
+            b"",
+            0,
+            b"m!",
+            b"",
+        ),
+        (
+            &["run", "x.js"],
+            b"'use strict';\nvar f = function () { try { return 1; } finally { return 2; } };\n$host.write('' + f());",
+            b"",
+            0,
+            b"2",
+            b"",
+        ),
+        (
+            &["run", "x.js"],
+            b"'use strict';\n$host.write('a');\nthrow { name: 'Odd', message: 'one' };",
+            b"",
+            1,
+            b"a",
+            b"uncaught: Odd: one\n",
+        ),
+        (
+            &["run", "x.js"],
+            b"'use strict';\nthrow 'text';",
+            b"",
+            1,
+            b"",
+            b"uncaught: Error: \n",
+        ),
+        (
+            &["run", "x.js"],
+            b"'use strict';\n$host.write('a');\nx;",
+            b"",
+            1,
+            b"a",
+            b"uncaught: ReferenceError: not defined: x\n",
+        ),
+        (
+            &["run", "x.js"],
+            b"'use strict';\nx = 1;",
+            b"",
+            1,
+            b"",
+            b"uncaught: ReferenceError: not defined: x\n",
+        ),
+        (
+            &["run", "x.js"],
+            b"'use strict';\nnull.x;",
+            b"",
+            1,
+            b"",
+            b"uncaught: TypeError: no properties\n",
+        ),
+    ];
+    assert_eq!(rt; first_wrong(&rt, &rows)?, None);
+    Ok(())
+}
+
+#[test]
+fn scripts_leave_the_profile_and_the_grammar_at_a_place(rt: HostRuntime) -> Result<(), Fail> {
+    let rows: [Row<'_>; 7] = [
+        (
+            &["run", "x.js"],
+            b"'use strict';\n1 / 0;",
+            b"",
+            7,
+            b"",
+            b"outside: Division at 2:1\n",
+        ),
+        (
+            &["run", "x.js"],
+            b"'use strict';\n$host.write('a');\n  $host.write('b' + 1 / 2);",
+            b"",
+            7,
+            b"a",
+            b"outside: Division at 3:21\n",
+        ),
+        (
+            &["run", "x.js"],
+            b"'use strict';\nvar m = 9007199254740991;\n$host.write('' + (m + 1));",
+            b"",
+            7,
+            b"",
+            b"outside: Number at 3:19\n",
+        ),
+        (
+            &["run", "x.js"],
+            b"'use strict';\n1 + null;",
+            b"",
+            7,
+            b"",
+            b"outside: Conversion at 2:1\n",
+        ),
+        (
+            &["run", "x.js"],
+            b"'use strict';\n$host.write(1);",
+            b"",
+            7,
+            b"",
+            b"outside: Host at 2:1\n",
+        ),
+        (
+            &["run", "x.js"],
+            b"'use strict';\nvar x = ;",
+            b"",
+            10,
+            b"",
+            b"x.js:2:9: not a script\n",
+        ),
+        (
+            &["run", "x.js"],
+            b"'use strict';\nwhile (true) { break; } break;",
+            b"",
+            10,
+            b"",
+            b"x.js:2:25: not a script\n",
+        ),
+    ];
+    assert_eq!(rt; first_wrong(&rt, &rows)?, None);
+    Ok(())
+}
+
+#[test]
+fn scripts_stop_at_their_budgets(rt: HostRuntime) -> Result<(), Fail> {
+    let rows: [Row<'_>; 7] = [
+        (
+            &["run", "x.js", "--steps", "24"],
+            b"'use strict';\nvar i = 0;\nwhile (i < 2) i = i + 1;",
+            b"",
+            0,
+            b"",
+            b"",
+        ),
+        (
+            &["run", "x.js", "--steps", "23"],
+            b"'use strict';\nvar i = 0;\nwhile (i < 2) i = i + 1;",
+            b"",
+            8,
+            b"",
+            b"out of steps: 23\n",
+        ),
+        (
+            &["run", "x.js", "--steps", "999"],
+            b"'use strict';\nwhile (true) {}",
+            b"",
+            8,
+            b"",
+            b"out of steps: 999\n",
+        ),
+        (
+            &["run", "x.js", "--cells", "1000"],
+            b"'use strict';\n$host.write('a');\nvar i = 0;\nwhile (i < 1000) { i = i + 1; var o = {}; }\n$host.write('z');",
+            b"",
+            0,
+            b"az",
+            b"",
+        ),
+        (
+            &["run", "x.js", "--cells", "1000"],
+            b"'use strict';\n$host.write('a');\nvar i = 0;\nwhile (i < 1001) { i = i + 1; var o = {}; }\n$host.write('z');",
+            b"",
+            9,
+            b"a",
+            b"cells full: 1000\n",
+        ),
+        (
+            &["run", "x.js", "--cells", "1000"],
+            b"'use strict';\nvar f = function g(n) { if (n === 0) return 0; return g(n - 1); };\n$host.write('' + f(998));",
+            b"",
+            0,
+            b"0",
+            b"",
+        ),
+        (
+            &["run", "x.js", "--cells", "1000"],
+            b"'use strict';\nvar f = function g(n) { if (n === 0) return 0; return g(n - 1); };\n$host.write('' + f(999));",
+            b"",
+            9,
+            b"",
+            b"cells full: 1000\n",
+        ),
+    ];
+    assert_eq!(rt; first_wrong(&rt, &rows)?, None);
     Ok(())
 }
 

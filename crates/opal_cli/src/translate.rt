@@ -5,20 +5,23 @@ ghost use Rattle.ruby_meaning.specs.Eval.{puts_text};
 ghost use Rattle.ruby_meaning.specs.Eval as spec_of;
 ghost use Rattle.ruby_meaning.specs.Load.{IsSound};
 ghost use Rattle.ruby_meaning.specs.Puts.{all_texts, putting};
-ghost use Rattle.es5_tree.specs.Spells.{EsSpells};
-ghost use Rattle.es5_tree.specs.Text.{text_of};
+ghost use Rattle.es5_tree.specs.Grammar.Spelling.{EsSpells};
+ghost use Rattle.es5_printer.specs.Text.{text_of};
 ghost use Rattle.opal_cli.specs.Agree.{Agree};
-ghost use Rattle.es5_tree.specs.Tree.{write, expr as bare};
-ghost use Rattle.es5_tree.specs.declared.small.EsKind.TheVariants as kind;
+ghost use Rattle.es5_laws.specs.Writes.{write, expr as bare};
+ghost use Rattle.es5_tree.specs.declared.tree.EsKind.TheVariants as kind;
 ghost use Rattle.opal_cli.specs.Translation as spec;
 
 use crate::laws::agreement;
-use es5_tree::small::{EsExpr, EsKind, EsStmt, EsStmts, Script};
-use es5_tree::text_spells;
+use es5_spelling::printed_is_spelled;
+use es5_tree::{EsExpr, EsKind, EsStmt, EsStmts, Script, word_units};
 use opal_base::{NoMemory, Pos, Units};
 use ruby_meaning::{Bundle, Kind, Node};
 use sqlite_items::{Boxed, Items};
 use std::alloc::Global;
+
+// Where an expression stands that no source has.
+const START: Pos = Pos { line: 0, col: 0 };
 
 /// The script of a bundle that some file spells. The evaluation of the bundle and the run of the
 /// script agree, and the script's text spells it.
@@ -29,23 +32,23 @@ pub fn translate(alloc: Global, bundle: &Bundle) -> Result<Script, NoMemory>
     ensures spellable { IfOk result (λ script. EsSpells (spec.script_of bundle.now) (text_of (spec.script_of bundle.now))) }
 {
     agreement();
-    text_spells();
+    printed_is_spelled();
     let mut body = Items::new(alloc);
-    add_statements(alloc, &mut body, &bundle.main.program.body)?;
+    add_statements(alloc, &bundle.main.program.body, &mut body)?;
     Ok(Script { body })
 }
 
 // Adds a statement for each text that a node writes.
 #[cycle(statements)]
 #[tactic(auto, unfolding(ruby_meaning::specs::Puts::putting, ruby_meaning::specs::Puts::kind_putting))]
-fn add_statements(alloc: Global, body: &mut EsStmts, node: &Node) -> Result<(), NoMemory>
+fn add_statements(alloc: Global, node: &Node, body: &mut EsStmts) -> Result<(), NoMemory>
     ensures added { IfOk result (λ done. body.new ≡ body.old ++ spec.statements (putting node.now).texts) }
     ensures small { IfOk result (λ done. spec.Of16Bits (putting node.now).texts) }
 {
     match node.kind.get() {
-        Kind::Seq(nodes) => add_all(alloc, body, nodes),
+        Kind::Seq(nodes) => add_all(alloc, nodes, body),
         Kind::Call { args, .. } => match args.as_slice() {
-            [arg] => add_text(alloc, body, arg),
+            [arg] => add_text(alloc, arg, body),
             _ => Ok(()),
         },
         _ => Ok(()),
@@ -54,18 +57,18 @@ fn add_statements(alloc: Global, body: &mut EsStmts, node: &Node) -> Result<(), 
 
 #[cycle(statements)]
 #[tactic(auto, unfolding(ruby_meaning::specs::Puts::putting, ruby_meaning::specs::Puts::kind_putting))]
-fn add_all(alloc: Global, body: &mut EsStmts, nodes: &Items<Node>) -> Result<(), NoMemory>
+fn add_all(alloc: Global, nodes: &Items<Node>, body: &mut EsStmts) -> Result<(), NoMemory>
     ensures added { IfOk result (λ done. body.new ≡ body.old ++ spec.statements (all_texts (map putting nodes.now))) }
     ensures small { IfOk result (λ done. spec.Of16Bits (all_texts (map putting nodes.now))) }
 {
     for node in nodes.as_slice() {
-        add_statements(alloc, body, node)?;
+        add_statements(alloc, node, body)?;
     }
     Ok(())
 }
 
 // Adds a statement for the argument of a call, where it is a text.
-fn add_text(alloc: Global, body: &mut EsStmts, arg: &Node) -> Result<(), NoMemory>
+fn add_text(alloc: Global, arg: &Node, body: &mut EsStmts) -> Result<(), NoMemory>
     ensures added { IfOk result (λ done. body.new ≡ body.old ++ spec.statements (option_to_list (putting arg.now).text)) }
     ensures small { IfOk result (λ done. spec.Of16Bits (option_to_list (putting arg.now).text)) }
 {
@@ -95,8 +98,9 @@ fn literal_in(node: &Node) -> Option<&Units>
 fn write_stmt(alloc: Global, line: Units) -> Result<EsStmt, NoMemory>
     ensures { IfOk result (λ stmt. stmt ≡ write line) }
 {
-    let host = expr(alloc, EsKind::Name(ascii(alloc, b"$host")?))?;
-    let callee = expr(alloc, EsKind::Member(host, ascii(alloc, b"write")?))?;
+    let host = expr(alloc, EsKind::Name(word_units(alloc, b"$host")?))?;
+    let write = word_units(alloc, b"write")?;
+    let callee = expr(alloc, EsKind::Member(host, write, START))?;
     let literal = expr(alloc, EsKind::Str(line))?;
     Ok(EsStmt::Expr(call(alloc, callee, literal)?))
 }
@@ -119,7 +123,7 @@ fn expr(alloc: Global, form: EsKind) -> Result<EsExpr, NoMemory>
         Ok(kind) => Ok(EsExpr {
             kind,
             origin: None,
-            pos: Pos { line: 0, col: 0 },
+            pos: START,
         }),
         Err(_) => Err(NoMemory),
     }
@@ -147,14 +151,4 @@ fn ends_line(text: &[u16]) -> bool
         [] => false,
         [.., last] => *last == 10,
     }
-}
-
-fn ascii(alloc: Global, bytes: &[u8]) -> Result<Units, NoMemory>
-    ensures { IfOk result (λ units. units ≡ bytes.now) }
-{
-    let mut units = Units::new(alloc);
-    for byte in bytes {
-        units.push(*byte as u16)?;
-    }
-    Ok(units)
 }

@@ -12,15 +12,14 @@ use Rattle.es5_tree.specs.declared.token.EsTokenKind.{EsTokenKind}
 use Rattle.es5_tree.specs.declared.token.EsTokenKind.TheVariants as kind
 use Rattle.es5_tree.specs.declared.tree.Script.{Script}
 use Rattle.es5_tree.specs.Depth.{script_depth, stmt_depth}
-use Rattle.es5_tree.specs.Lexed.{LexesTo, NoTokenPlace}
-use Rattle.es5_tree.specs.Spells.{IsEnded}
+use Rattle.es5_tree.specs.Lexed.{LexesTo, NoTokenPlace, IsEnded}
 use Rattle.es5_tree.specs.Grammar.Nodes.{Node, depth, stmts}
 use Rattle.es5_tree.specs.Grammar.Names.{script as whole}
 use Rattle.es5_tree.specs.Grammar.Spelling.{up_to_end, before_end, SpellsScript, SpellsInLimit, limit, NoFrontAt, NoFrontPos, Reads, bare, NoFrontPlace, IsNotScript}
 use Rattle.es5_tree.specs.Grammar.Laws.{OneScript, SpelledOrRefused, NeverBoth, OneStop, StopsAtToken, BeginningsAreFronts, OneRead, ReadSpells, OneSpelled, ScriptOrPlace, NotScriptOrRead, OnePlace}
 use Rattle.es5_tree.specs.Grammar.Table.{table}
 use Rattle.es5_tree.proofs.Cutting.{tokens_or_none_is, lexed_once_is}
-use Rattle.es5_tree.proofs.Placed.{lexed_ended}
+use Rattle.es5_tree.proofs.Slices.{lexed_ended}
 use Rattle.es5_tree.proofs.Grammar.Depths.{highest_of_all, stmts_depth}
 use Rattle.es5_tree.proofs.Grammar.TableMeets.{predictive}
 

@@ -7,7 +7,7 @@ use Rattle.opal_base.specs.declared.place.Pos.{Pos}
 use Rattle.es5_tree.specs.declared.token.EsToken.{EsToken}
 use Rattle.es5_tree.specs.declared.tree.Script.{Script}
 use Rattle.es5_tree.specs.Depth.{script_depth}
-use Rattle.es5_tree.specs.Spells.{IsEnded}
+use Rattle.es5_tree.specs.Lexed.{IsEnded}
 use Rattle.es5_tree.specs.Grammar.Nodes.{Node, depth}
 use Rattle.es5_tree.specs.Grammar.Names.{Name, sorts}
 use Rattle.es5_tree.specs.Grammar.Spelling.{SpellsScript, SpellsInLimit, limit, NoFrontAt, NoFrontPos, Reads, bare, EsSpells, IsNotScript}

@@ -8,7 +8,7 @@ use Rattle.es5_tree.specs.declared.terminal.Terminal.TheVariants as terminal
 use Rattle.es5_tree.specs.declared.token.EsMark.TheVariants as mark
 use Rattle.es5_tree.specs.declared.tree.EsStmt.TheVariants as stmt
 use Rattle.es5_tree.specs.Grammar.Terminals.{a, op, key}
-use Rattle.es5_tree.specs.Reading.{is_directive}
+use Rattle.es5_tree.specs.Lexed.{is_directive}
 use Rattle.es5_tree.specs.Grammar.Nodes.{expr_of, expr_if, stmts, name_of, closed, takes_else, branched, looped, tried}
 use Rattle.es5_tree.specs.Grammar.Names.{statement, expr, R}
 use Rattle.es5_tree.specs.Grammar.Expressions.{statement_list, block}

@@ -1,6 +1,6 @@
 -- The input of a run, as it is read line by line.
 use Rattle.std.specs.Prelude.{ℕ, ◌+◌, if◌then◌else◌, nat_eq, [], ◌∷◌, drop}
-use Rattle.es5_tree.specs.State.{Text, Val, Null, Str}
+use Rattle.es5_tree.specs.Values.{Text, Val, Null, Str}
 
 -- the input, and how many of its units were read
 pub record Reading : Type 0 where

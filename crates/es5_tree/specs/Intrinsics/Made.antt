@@ -1,6 +1,6 @@
 -- The objects that stand before a script begins, and the globals (ECMA-262 5.1, section 15, profile).
 use Rattle.std.specs.Prelude.{ℕ, ◌+◌, List, [], ◌∷◌, ◌++◌, map, Option, Some, None, codes}
-use Rattle.es5_tree.specs.State.{Text, Val, Undefined, Obj}
+use Rattle.es5_tree.specs.Values.{Text, Val, Undefined, Obj}
 use Rattle.es5_tree.specs.Objects.Cells.{Cell, Object, Host}
 use Rattle.es5_tree.specs.Intrinsics.Calls.{HostFn, Create, GetPrototypeOf, SetPrototypeOf, Keys, HasOwnProperty, Call, Apply, IsArray, Push, Slice, CharCodeAt, Substring, IndexOf, FromCharCode, Write, Line, number}
 

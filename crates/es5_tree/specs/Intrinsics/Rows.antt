@@ -1,8 +1,8 @@
 -- What a call of each intrinsic function does (ECMA-262 5.1, section 15, profile).
 use Rattle.std.specs.Prelude.{ℕ, ◌+◌, ◌-◌, Bool, true, false, ◌&&◌, ◌||◌, not, if◌then◌else◌, nat_lt, nat_le, nat_eq, List, [], ◌∷◌, map, drop, length, slice_index, slice_range, pos, negsuc, Option, Some, None, is_some, codes}
 use Rattle.std.specs.List.{range_with_len, starts_with}
-use Rattle.es5_tree.specs.State.{Text, Val, Undefined, Null, Truth, Num, Str, Obj}
-use Rattle.es5_tree.specs.Task.{OutKind, Host}
+use Rattle.es5_tree.specs.Values.{Text, Val, Undefined, Null, Truth, Num, Str, Obj}
+use Rattle.es5_tree.specs.Ends.{OutKind, Host}
 use Rattle.es5_tree.specs.Objects.Names.{decimal, length_name, index_end}
 use Rattle.es5_tree.specs.Objects.Cells.{Kind, Object, Array, Arguments, Function, Record, Cell, new_cell, own, put, keys, is_array, has_length}
 use Rattle.es5_tree.specs.Objects.Cells as kind

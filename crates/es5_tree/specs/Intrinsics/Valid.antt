@@ -1,6 +1,6 @@
 -- Heaps in which the intrinsic objects stand and all that names an object names one that is there.
 use Rattle.std.specs.Prelude.{◌≡◌, ℕ, ◌<◌, ◌≤◌, List, length, Option, IfSome, ⊤, All}
-use Rattle.es5_tree.specs.State.{Val, Undefined, Null, Truth, Num, Str, Obj}
+use Rattle.es5_tree.specs.Values.{Val, Undefined, Null, Truth, Num, Str, Obj}
 use Rattle.es5_tree.specs.Objects.Cells.{Cell}
 use Rattle.es5_tree.specs.Objects.Links.{cell_at, LinksWithin}
 use Rattle.es5_tree.specs.Intrinsics.Made.{count}

@@ -1,7 +1,7 @@
 -- Objects: their kinds, their own properties, and what a write, a deletion and a list of names are (ECMA-262 5.1, sections 8.6, 8.12, 10.6 and 15.4.5).
 use Rattle.std.specs.Prelude.{◌≡◌, ℕ, ◌+◌, ◌^◌, ◌<◌, max, Bool, true, false, not, ◌&&◌, if◌then◌else◌, nat_lt, nat_le, List, [], ◌∷◌, ◌++◌, map, pos, negsuc, Option, Some, None, bytes_eq}
 use Rattle.std.specs.List.{filter, filter_map}
-use Rattle.es5_tree.specs.State.{Text, Val, Undefined, Null, Truth, Num, Str, Obj, find_own}
+use Rattle.es5_tree.specs.Values.{Text, Val, Undefined, Null, Truth, Num, Str, Obj, find_own}
 use Rattle.es5_tree.specs.Objects.Names.{decimal, index_of, is_length}
 
 -- A function has the number of its code and that of the record it was made in, an intrinsic function its number, an activation record the record around it.

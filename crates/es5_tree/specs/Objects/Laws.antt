@@ -2,7 +2,7 @@
 use Rattle.std.specs.Prelude.{◌≡◌, ℕ, ◌<◌, ◌≤◌, false, not, ◌&&◌, List, length, Option, Some, None, is_some, ◌↔◌, bytes_eq, IsPermutation, IsSorted}
 use Rattle.std.specs.List.{list_any}
 use Rattle.std.specs.Ordering.{nat_cmp}
-use Rattle.es5_tree.specs.State.{Text, Val}
+use Rattle.es5_tree.specs.Values.{Text, Val}
 use Rattle.es5_tree.specs.Objects.Names.{decimal, index_of, index_end, is_length}
 use Rattle.es5_tree.specs.Objects.Cells.{Cell, own, put, delete, keys, rising, has_length, is_array_length}
 use Rattle.es5_tree.specs.Objects.Links.{first_of_chain, chain, Within, LinksWithin, NoCycle}

@@ -1,7 +1,7 @@
 -- Links from object to object, and properties along them (ECMA-262 5.1, sections 8.6.2, 8.12.2 and 8.12.3).
 use Rattle.std.specs.Prelude.{◌≡◌, ℕ, zero, suc, ◌<◌, Bool, List, [], ◌∷◌, length, slice_index_or, slice_set, Option, Some, None, IfSome, nat_eq}
 use Rattle.std.specs.List.{list_any}
-use Rattle.es5_tree.specs.State.{Text, Val, first}
+use Rattle.es5_tree.specs.Values.{Text, Val, first}
 use Rattle.es5_tree.specs.Objects.Cells.{Cell, Object, new_cell, own}
 
 -- an object's number is its place in the list; past the end stands an empty one

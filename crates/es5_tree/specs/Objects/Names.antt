@@ -1,7 +1,7 @@
 -- Names of properties: texts, and among them the array indices (ECMA-262 5.1, sections 8.10 and 15.4).
 use Rattle.std.specs.Prelude.{ℕ, zero, suc, ◌+◌, ◌-◌, Bool, ◌&&◌, if◌then◌else◌, nat_lt, [], ◌∷◌, map, Option, Some, None, bytes_eq, codes}
 use Rattle.std.specs.Int.Digits.{digits_of, number_from_digits}
-use Rattle.es5_tree.specs.State.{Text}
+use Rattle.es5_tree.specs.Values.{Text}
 
 -- a number in decimal digits, without a leading zero (9.8.1)
 unfoldable pub decimal : ℕ → Text

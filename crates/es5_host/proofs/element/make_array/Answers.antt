@@ -1,6 +1,6 @@
 use Rattle.std.proofs.Common.{◌<◌, length, sym, subst, ap, map, Some, arith}
 use Rattle.std.proofs.lemmas.List.Elements.{All-nil}
-use Rattle.es5_tree.specs.State.{Obj}
+use Rattle.es5_tree.specs.Values.{Obj}
 use Rattle.es5_tree.specs.Objects.Cells.{new_cell, Array}
 use Rattle.es5_tree.specs.Intrinsics.Valid.{Valid}
 use Rattle.es5_objects.specs.Values.{value_if}

@@ -1,5 +1,5 @@
 use Rattle.std.proofs.Common.{◌≡◌, map, take, Some}
-use Rattle.es5_tree.specs.State.{Str}
+use Rattle.es5_tree.specs.Values.{Str}
 use Rattle.es5_objects.specs.Values.{value_if}
 use Rattle.es5_host.proofs.element.name_elements.Given as goal
 

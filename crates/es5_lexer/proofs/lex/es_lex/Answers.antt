@@ -1,5 +1,5 @@
 use Rattle.std.proofs.Common.{ap, length, subst, arith, length-append}
-use Rattle.es5_tree.proofs.Placed.{lexed_ended}
+use Rattle.es5_tree.proofs.Slices.{lexed_ended}
 use Rattle.es5_tree.proofs.Slices.{slices_ascend_is, numerals_safe_is}
 use Rattle.es5_lexer.specs.Pieces.{AllowedOrNot, token_here}
 use Rattle.es5_lexer.proofs.Steps.{from}

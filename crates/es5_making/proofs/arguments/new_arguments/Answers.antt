@@ -1,5 +1,5 @@
 use Rattle.std.proofs.Common.{◌∙◌, ap, map, pos, Some}
-use Rattle.es5_tree.specs.State.{Num}
+use Rattle.es5_tree.specs.Values.{Num}
 use Rattle.es5_tree.specs.Objects.Cells.{Arguments, new_cell, put}
 use Rattle.es5_tree.specs.Objects.Names.{length_name}
 use Rattle.es5_tree.specs.Intrinsics.Made.{object_prototype}

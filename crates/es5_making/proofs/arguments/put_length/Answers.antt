@@ -1,5 +1,5 @@
 use Rattle.std.proofs.Common.{pos, refl}
-use Rattle.es5_tree.specs.State.{Num}
+use Rattle.es5_tree.specs.Values.{Num}
 use Rattle.es5_host.proofs.Making.{on_ok}
 use Rattle.es5_objects.specs.Values.{value_of}
 use Rattle.es5_making.proofs.Holding.{valid_given}

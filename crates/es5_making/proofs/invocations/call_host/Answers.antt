@@ -1,5 +1,5 @@
 use Rattle.std.proofs.Common.{Ok, Err, [], refl}
-use Rattle.es5_tree.specs.State.{Undefined}
+use Rattle.es5_tree.specs.Values.{Undefined}
 use Rattle.es5_tree.specs.Intrinsics.Rows.{row}
 use Rattle.es5_evaluation.specs.Task.{Scope}
 use Rattle.es5_evaluation.specs.Evaluate.{type_error}

@@ -1,5 +1,5 @@
 use Rattle.std.proofs.Common.{[]}
-use Rattle.es5_tree.specs.State.{Undefined}
+use Rattle.es5_tree.specs.Values.{Undefined}
 use Rattle.es5_evaluation.specs.Evaluate.{not_a_function}
 use Rattle.es5_evaluation.specs.Task.{Scope}
 use Rattle.es5_making.proofs.HostSteps.{quiet_acted, quiet_cause}

@@ -1,5 +1,5 @@
 use Rattle.std.proofs.Common.{◌∙◌, sym, ap}
-use Rattle.es5_tree.specs.State.{find_own}
+use Rattle.es5_tree.specs.Values.{find_own}
 use Rattle.es5_objects.specs.Properties.{entry, entries}
 use Rattle.es5_objects.proofs.Loops.{at_step, past_end}
 use Rattle.es5_objects.proofs.Lists.{find_none, find_here, find_later}

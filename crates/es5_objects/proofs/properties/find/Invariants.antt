@@ -1,5 +1,5 @@
 use Rattle.std.proofs.Common.{◌≡◌, drop}
-use Rattle.es5_tree.specs.State.{find_own}
+use Rattle.es5_tree.specs.Values.{find_own}
 use Rattle.es5_objects.specs.Properties.{entries}
 use Rattle.es5_objects.proofs.properties.find.Given as goal
 

@@ -1,5 +1,4 @@
-use Rattle.es5_tree.proofs.Placed.{lexed_ended}
-use Rattle.es5_tree.proofs.Slices.{slices_ascend_is, numerals_safe_is}
+use Rattle.es5_tree.proofs.Slices.{lexed_ended, slices_ascend_is, numerals_safe_is}
 use Rattle.es5_tree.proofs.laws.tokens_in_order.Goals as goal
 
 pub returns : goal.returns

@@ -18,7 +18,7 @@ returns-clause-check g c map file told asked done =
 
 pub returns-clause-exec : goal.returns-clause-exec
 returns-clause-exec g c map file budget told asked ran =
-    executed c.one_script.ensures c.one_read.ensures.spells c.sites_dont_matter.ensures map _ file budget _ _ _ ran
+    executed c.bytes_spell_one.ensures.one_spelled c.bytes_spell_one.ensures.spells c.sites_dont_matter.ensures.shown map _ file budget _ _ _ ran
     (subst (λ words. AnswersAs map (g.I.Source.left c.args.input.now) words c.report.result (g.O.Sink.told c.args.out.now) (g.O.Sink.told c.work-outcome.new.out)) asked
     (answers_as _ _ _ _ _ _ _ _ _ _ _ c.report.ensures.told (is_answer c.report.result ran) (c.work-outcome.ensures.answer map told)))
 

@@ -16,5 +16,5 @@ returns-in-Ok-script_back-clause-front g c map e =
 
 pub returns-clause-answer : goal.returns-clause-answer
 returns-clause-answer g c map e a =
-    not_back map _ c.args.file.now c.in-Ok.bundle c.args.budget c.in-Err-script_back.fault _ _
-    (c.in-Ok.ensures.loads map e) c.in-Err-script_back.ensures c.not_read_back.ensures a
+    not_back map _ c.args.file.now c.in-Ok.bundle c.args.budget c.in-Err-script_back.stop _ _
+    (c.in-Ok.ensures.loads map e) c.in-Err-script_back.ensures c.unprinted.ensures a

@@ -1,0 +1,10 @@
+pub mod Writing
+pub mod Bare
+pub mod Folds
+pub mod Depths
+pub mod OwnCode
+pub mod SameTasks
+pub mod SameSteps
+pub mod SameCalls
+pub mod SameNodes
+pub mod SameRuns

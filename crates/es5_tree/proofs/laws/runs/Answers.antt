@@ -1,5 +1,0 @@
-use Rattle.es5_tree.proofs.Determinism.{more_units_is, one_end_is, output_grows_is}
-use Rattle.es5_tree.proofs.laws.runs.Goals as goal
-
-pub returns : goal.returns
-returns c = record { more_units = more_units_is; one_end = one_end_is; output_grows = output_grows_is }
