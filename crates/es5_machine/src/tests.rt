@@ -95,8 +95,40 @@ fn push_end(alloc: Global, line: &mut Vec<u8>, end: &RunEnd) -> Result<(), Fail>
     }
 }
 
-// What a script does in slices of so many steps: of each its end and what the sink has taken by
-// then; and at last the steps begun.
+// The end of a slice of so many steps, and what the sink has taken by then.
+fn push_slice(
+    alloc: Global,
+    line: &mut Vec<u8>,
+    machine: &mut Machine,
+    steps: u32,
+    sink: &mut MemSink,
+) -> Result<(), Fail> {
+    let end = run(machine, steps, sink)?;
+    push_end(alloc, line, &end)?;
+    line.extend_from_slice(b" [")?;
+    line.extend_from_slice(sink.taken())?;
+    line.extend_from_slice(b"], ")?;
+    Ok(())
+}
+
+// What a machine does in slices: of each its end and what the sink has taken by then; and at last
+// the steps begun.
+fn push_slices(
+    alloc: Global,
+    line: &mut Vec<u8>,
+    machine: &mut Machine,
+    slices: &[u32],
+    sink: &mut MemSink,
+) -> Result<(), Fail> {
+    for steps in slices {
+        push_slice(alloc, line, machine, *steps, sink)?;
+    }
+    let steps = format!(in alloc; "{}", machine.steps_begun())?;
+    line.extend_from_slice(steps.as_bytes())?;
+    Ok(())
+}
+
+// What a script does in slices of so many steps.
 fn trace(
     alloc: Global,
     script: Script,
@@ -104,18 +136,12 @@ fn trace(
     slices: &[u32],
     sink: &mut MemSink,
 ) -> Result<Vec<u8>, Fail> {
-    let mut machine = Machine::start(alloc, script, Units::new(alloc), cells)?;
     let mut line = Vec::new(alloc);
-    for steps in slices {
-        let end = run(&mut machine, *steps, sink)?;
-        push_end(alloc, &mut line, &end)?;
-        line.extend_from_slice(b" [")?;
-        line.extend_from_slice(sink.taken())?;
-        line.extend_from_slice(b"], ")?;
+    let mut machine = Machine::start(alloc, script, Units::new(alloc), cells)?;
+    match push_slices(alloc, &mut line, &mut machine, slices, sink) {
+        Ok(()) => Ok(line),
+        Err(fail) => Err(fail),
     }
-    let steps = format!(in alloc; "{}", machine.steps_begun())?;
-    line.extend_from_slice(steps.as_bytes())?;
-    Ok(line)
 }
 
 /// Texts that a script writes, the slices of its run, the bytes that the sink takes a call, the call

@@ -1,12 +1,11 @@
 -- What out took of a compiled script.
-use Rattle.std.proofs.Common.{◌≡◌, ◌<◌, ◌^◌, ℕ, List, length, [], Ok, Err, Result, IfOk, refl, sym, ap, ◌∙◌, subst, arith}
+use Rattle.std.proofs.Common.{◌≡◌, ◌<◌, ◌^◌, ℕ, List, length, [], refl, sym, ap, ◌∙◌, subst, arith}
 use Rattle.std.specs.declared.option.Option.{Option}
 use Rattle.opal_base.specs.Outside.{FileMap, appended, TookFront}
 use Rattle.opal_base.proofs.Took.{appended_none}
 use Rattle.ruby_meaning.specs.declared.bundle.Bundle.{Bundle}
 use Rattle.ruby_meaning.specs.Load.{Loaded, Loads, Whole, Missing, Refused}
 use Rattle.ruby_meaning.specs.Laws.{OneLoad}
-use Rattle.es5_tree.specs.declared.tree.Script.{Script}
 use Rattle.es5_tree.specs.Grammar.Spelling.{EsSpells}
 use Rattle.es5_printer.specs.Text.{text_of}
 use Rattle.es5_printer.specs.declared.script.PrintStop.{PrintStop}

@@ -11,7 +11,6 @@ use Rattle.ruby_meaning.specs.Load.{Loaded, Loads, Whole, Missing, Refused}
 use Rattle.es5_tree.specs.declared.tree.Script.{Script}
 use Rattle.es5_tree.specs.Values.{Text}
 use Rattle.es5_tree.specs.Ends.{EsEnd, Finished, Uncaught, Outside}
-use Rattle.es5_tree.specs.Depth.{script_depth}
 use Rattle.es5_tree.specs.Grammar.Laws.{OnePlace, NotScriptOrRead, OneRead}
 use Rattle.es5_tree.specs.Grammar.Spelling.{Reads}
 use Rattle.es5_evaluation.specs.Run.{cells_at}

@@ -1,6 +1,6 @@
 -- A script that writes texts of 16-bit units has a spelling.
-use Rattle.std.proofs.Common.{◌≡◌, ℕ, ◌<◌, ◌^◌, false, List, [], ◌∷◌, map, codes, refl}
-use Rattle.std.specs.List.{AllByRecursion, list_all}
+use Rattle.std.proofs.Common.{ℕ, ◌<◌, ◌^◌, false, List, [], ◌∷◌, map, codes, refl}
+use Rattle.std.specs.List.{AllByRecursion}
 use Rattle.es5_tree.specs.Reserved.{is_reserved}
 use Rattle.es5_tree.specs.Tree.{start}
 use Rattle.es5_laws.specs.Writes.{expr, write, writes}
