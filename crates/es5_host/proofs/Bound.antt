@@ -14,15 +14,15 @@ use Rattle.es5_host.specs.Bindings.{binding, bindings, later, place_of, value_at
 ltb_le : (a b : ℕ) → b ≤ a → nat_lt a b ≡ false
 ltb_le a b le = grind (arith, nat_tests)
 
-true_or_false : (b : Bool) → (b ≡ true) ⊎ (b ≡ false)
+pub true_or_false : (b : Bool) → (b ≡ true) ⊎ (b ≡ false)
 true_or_false true = inl refl
 true_or_false false = inr refl
 
-place_here : (b : Text × Val) (bs : List (Text × Val)) (name : Text) → bytes_eq b.0 name ≡ true → place_of (b ∷ bs) name ≡ Some 0
+pub place_here : (b : Text × Val) (bs : List (Text × Val)) (name : Text) → bytes_eq b.0 name ≡ true → place_of (b ∷ bs) name ≡ Some 0
 unfolding place_of
 place_here b bs name e = rw e refl
 
-place_later : (b : Text × Val) (bs : List (Text × Val)) (name : Text) → bytes_eq b.0 name ≡ false → place_of (b ∷ bs) name ≡ later (place_of bs name)
+pub place_later : (b : Text × Val) (bs : List (Text × Val)) (name : Text) → bytes_eq b.0 name ≡ false → place_of (b ∷ bs) name ≡ later (place_of bs name)
 unfolding place_of
 place_later b bs name e = rw e refl
 
@@ -36,10 +36,10 @@ shift k n =
     (λ (le : n ≤ k). rw (ltb_le k n le, ltb_le (1 + k) (suc n) (omega arith)) refl)
     (cases_lt k n)
 
-position_here : (p : Binding → Bool) (b : Binding) (bs : List Binding) → p b ≡ true → position p (b ∷ bs) ≡ Some 0
+pub position_here : {X : Type 0} (p : X → Bool) (b : X) (bs : List X) → p b ≡ true → position p (b ∷ bs) ≡ Some 0
 position_here p b bs e = rw e (rw (lt-ltb 0 (suc (length bs)) (omega arith)) refl)
 
-position_later : (p : Binding → Bool) (b : Binding) (bs : List Binding) → p b ≡ false → position p (b ∷ bs) ≡ later (position p bs)
+pub position_later : {X : Type 0} (p : X → Bool) (b : X) (bs : List X) → p b ≡ false → position p (b ∷ bs) ≡ later (position p bs)
 position_later p b bs e = rw e (shift (position_or_len p bs) (length bs))
 
 pub place_is : (bs : List Binding) (name : Text) → position (named name) bs ≡ place_of (bindings bs) name
@@ -101,11 +101,11 @@ set_next : (b : Text × Val) (bs : List (Text × Val)) (i : ℕ) (v : Val) → w
 unfolding with_value_at
 set_next b bs i v = refl
 
-later_some : (r : Option ℕ) (i : ℕ) → later r ≡ Some i → (j : ℕ) × (r ≡ Some j) × (i ≡ suc j)
+pub later_some : (r : Option ℕ) (i : ℕ) → later r ≡ Some i → (j : ℕ) × (r ≡ Some j) × (i ≡ suc j)
 later_some None i e = cc
 later_some (Some j) i e = (j, refl, cc)
 
-later_none : (r : Option ℕ) → later r ≡ None → r ≡ None
+pub later_none : (r : Option ℕ) → later r ≡ None → r ≡ None
 later_none None e = refl
 later_none (Some j) e = cc
 

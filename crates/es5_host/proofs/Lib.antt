@@ -8,5 +8,6 @@ pub mod Quiet
 pub mod RowsNamed
 pub mod Numbers
 pub mod Bound
+pub mod Few
 pub mod Making
 pub mod Standing

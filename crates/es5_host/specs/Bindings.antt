@@ -10,6 +10,10 @@ binding b = (b.name, value_of b.value)
 abbrev pub bindings : List Binding → List (Text × Val)
 bindings bs = map binding bs
 
+-- so many names are looked at one after the other
+abbrev pub few : ℕ
+few = 8
+
 -- one place further on
 abbrev pub later : Option ℕ → Option ℕ
 later None = None

@@ -1,9 +1,11 @@
-ghost use Rattle.std.specs.Prelude.{◌≡◌, ◌<◌, [], ◌∷◌, ◌++◌, bytes_eq, length, slice_get, IfSome, OnOk, OnErr, Some};
+ghost use Rattle.std.specs.Prelude.{◌≡◌, ◌+◌, ◌<◌, ◌≤◌, [], ◌∷◌, ◌++◌, map, take, drop, bytes_eq, length, slice_get, IfSome, OnOk, OnErr, Some};
 ghost use Rattle.std.specs.List.{position};
+ghost use Rattle.std.specs.Option.{option_map};
 ghost use Rattle.es5_objects.specs.Values.{value_of};
-ghost use Rattle.es5_host.specs.Bindings.{bindings, place_of, value_at, with_value_at};
+ghost use Rattle.es5_host.specs.Bindings.{bindings, few, place_of, value_at, with_value_at};
 
 use es5_objects::EsValue;
+use indexmap::IndexSet;
 use opal_base::{NoMemory, Units};
 use std::alloc::Global;
 use std::marker::Model;
@@ -15,25 +17,33 @@ pub struct Binding {
     pub value: EsValue,
 }
 
+// So many names are looked at one after the other.
+const FEW: usize = 8;
+
 /// Names and their values, in order: the globals, or the variables of an activation record
 /// (ECMA-262 5.1, section 10.2.1.1).
 #[derive(Drop)]
 pub struct Bindings {
     items: Vec<Binding>,
+    // The names past the first few, by which they are looked up.
+    index: IndexSet<Vec<u16>>,
 }
 
 /// The names that stand before a script begins, with their values.
 pub type Globals = Bindings;
 
 impl Model for Bindings {
-    ghost use Rattle.std.specs.Prelude.{List};
+    ghost use Rattle.std.specs.Prelude.{◌≡◌, List, map, drop};
     ghost use Rattle.es5_tree.specs.Values.{Text, Val};
 
     ghost Value = { List (Text × Val) };
 
-    ghost use Rattle.es5_host.specs.Bindings.{bindings};
+    ghost use Rattle.es5_objects.specs.Properties.{names};
+    ghost use Rattle.es5_host.specs.Bindings.{bindings, few};
 
     ghost view = { λ list. bindings list.items.items };
+
+    ghost invariant = { λ list. names list.index.keys ≡ map (λ b. b.0) (drop few (bindings list.items.items)) };
 }
 
 // The first place of a name.
@@ -52,6 +62,7 @@ impl Bindings {
     {
         Bindings {
             items: Vec::new(alloc),
+            index: IndexSet::new(alloc),
         }
     }
 
@@ -84,17 +95,77 @@ impl Bindings {
         ensures place { result ≡ place_of self.now name.now }
         ensures within { IfSome result (λ i. i < length self.now) }
     {
-        first_of(&self.items, name.as_slice())
+        match first_of(self.first_few(), name.as_slice()) {
+            Some(i) => Some(i),
+            None => self.find_past(name.as_slice()),
+        }
+    }
+
+    // The names that are looked at one after the other.
+    fn first_few(&self) -> &[Binding]
+        ensures { bindings result.now ≡ take few self.now }
+    {
+        &self.items[..self.items.len().min(FEW)]
+    }
+
+    // The first place of a name past the first few.
+    fn find_past(&self, name: &[u16]) -> Option<usize>
+        ensures { result ≡ option_map (λ i. i + few) (place_of (drop few self.now) name.now) }
+    {
+        match self.index.get_index_of(name) {
+            Some(i) => Some(i + FEW),
+            None => None,
+        }
     }
 
     /// Puts a name with its value at the end. Where no memory is found, nothing changes, and both are
-    /// given up.
+    /// given up. A name that stands past the first few already is answered so too.
     pub fn push(&mut self, name: Units, value: EsValue) -> Result<(), NoMemory>
+        ensures ok { OnOk result (self.new ≡ self.old ++ (name, value_of value) ∷ []) }
+        ensures err { OnErr result (self.new ≡ self.old) }
+    {
+        if self.items.len() < FEW {
+            self.push_few(name, value)
+        } else {
+            self.push_past(name, value)
+        }
+    }
+
+    // The name is one of the first few.
+    fn push_few(&mut self, name: Units, value: EsValue) -> Result<(), NoMemory>
+        requires { length self.old < few }
         ensures ok { OnOk result (self.new ≡ self.old ++ (name, value_of value) ∷ []) }
         ensures err { OnErr result (self.new ≡ self.old) }
     {
         match self.items.push(Binding { name, value }) {
             Ok(()) => Ok(()),
+            Err(_) => Err(NoMemory),
+        }
+    }
+
+    // The name stands past the first few.
+    fn push_past(&mut self, name: Units, value: EsValue) -> Result<(), NoMemory>
+        requires { few ≤ length self.old }
+        ensures ok { OnOk result (self.new ≡ self.old ++ (name, value_of value) ∷ []) }
+        ensures err { OnErr result (self.new ≡ self.old) }
+    {
+        if self.index.contains(name.as_slice()) {
+            return Err(NoMemory);
+        }
+        let key = match Vec::from_slice(*self.index.allocator(), name.as_slice()) {
+            Ok(key) => key,
+            Err(_) => return Err(NoMemory),
+        };
+        match self.index.reserve(1) {
+            Ok(()) => {}
+            Err(_) => return Err(NoMemory),
+        }
+        match self.items.push(Binding { name, value }) {
+            Ok(()) => {}
+            Err(_) => return Err(NoMemory),
+        }
+        match self.index.insert(key) {
+            Ok(_) => Ok(()),
             Err(_) => Err(NoMemory),
         }
     }

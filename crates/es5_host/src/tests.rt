@@ -177,6 +177,40 @@ fn names_with_values(rt: HostRuntime) -> Result<(), Fail> {
 }
 
 #[test]
+fn more_than_a_few_names(rt: HostRuntime) -> Result<(), Fail> {
+    let alloc = rt.alloc();
+    let mut list = Bindings::new(alloc);
+    for name in ["a", "b", "c", "d", "e", "f", "g", "h", "i", "j", "k"] {
+        list.push(utf8_to_units(alloc, name.as_bytes())?, EsValue::Null)?;
+    }
+    assert_eq!(rt; list.len(), 11);
+    for (name, place) in [
+        ("a", Some(0)),
+        ("h", Some(7)),
+        ("i", Some(8)),
+        ("k", Some(10)),
+        ("l", None),
+    ] {
+        assert_eq!(rt;
+            list.find(&utf8_to_units(alloc, name.as_bytes())?),
+            place,
+            "of {name}"
+        );
+    }
+    assert!(rt;
+        list.push(utf8_to_units(alloc, b"j")?, EsValue::Null)
+            .is_err()
+    );
+    assert_eq!(rt; list.len(), 11);
+    assert!(rt; 9 < list.len());
+    list.set(9, number(5));
+    assert_eq!(rt; list.find(&utf8_to_units(alloc, b"k")?), Some(10));
+    assert!(rt; 9 < list.len());
+    assert_eq!(rt; shown_value(alloc, list.value(9))?.as_str(), "5");
+    Ok(())
+}
+
+#[test]
 fn functions_by_number(rt: HostRuntime) {
     for (number, which) in [
         (0, Some(HostFn::Create)),

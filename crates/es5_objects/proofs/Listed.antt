@@ -1,33 +1,34 @@
 -- The steps of the loops that list names.
-use Rattle.std.proofs.Common.{◌≡◌, ℕ, List, [], ◌∷◌, ◌++◌, refl, sym, Some, None, true, false, append_assoc}
+use Rattle.std.proofs.Common.{◌≡◌, ℕ, List, [], ◌∷◌, ◌++◌, map, filter, refl, sym, Some, None, true, false, append_assoc}
+use Rattle.std.specs.List.{filter_map}
 use Rattle.es5_tree.specs.Values.{Text, Val}
-use Rattle.es5_tree.specs.Objects.Names.{index_of}
-use Rattle.es5_tree.specs.Objects.Cells.{Kind, indices, other_names, is_other_name}
+use Rattle.es5_tree.specs.Objects.Names.{index_of, decimal}
+use Rattle.es5_tree.specs.Objects.Cells.{Cell, Kind, rising, indices, other_names, is_other_name, keys}
 
-pub indices_here : (p : Text × Val) (ps : List (Text × Val)) (i : ℕ) → index_of p.0 ≡ Some i → indices (p ∷ ps) ≡ i ∷ indices ps
-unfolding indices
-indices_here p ps i e = rw e refl
+pub index_here : (name : Text) (names : List Text) (i : ℕ) → index_of name ≡ Some i → filter_map index_of (name ∷ names) ≡ i ∷ filter_map index_of names
+index_here name names i e = rw e refl
 
-pub indices_later : (p : Text × Val) (ps : List (Text × Val)) → index_of p.0 ≡ None → indices (p ∷ ps) ≡ indices ps
-unfolding indices
-indices_later p ps e = rw e refl
+pub index_later : (name : Text) (names : List Text) → index_of name ≡ None → filter_map index_of (name ∷ names) ≡ filter_map index_of names
+index_later name names e = rw e refl
 
-pub indices_none : indices [] ≡ []
-unfolding indices
-indices_none = refl
+pub other_here : (kind : Kind) (name : Text) (names : List Text) → is_other_name kind name ≡ true → filter (is_other_name kind) (name ∷ names) ≡ name ∷ filter (is_other_name kind) names
+other_here kind name names e = rw e refl
 
-pub other_here : (kind : Kind) (p : Text × Val) (ps : List (Text × Val)) → is_other_name kind p.0 ≡ true → other_names kind (p ∷ ps) ≡ p.0 ∷ other_names kind ps
-unfolding other_names
-other_here kind p ps e = rw e refl
-
-pub other_later : (kind : Kind) (p : Text × Val) (ps : List (Text × Val)) → is_other_name kind p.0 ≡ false → other_names kind (p ∷ ps) ≡ other_names kind ps
-unfolding other_names
-other_later kind p ps e = rw e refl
-
-pub other_none : (kind : Kind) → other_names kind [] ≡ []
-unfolding other_names
-other_none kind = refl
+pub other_later : (kind : Kind) (name : Text) (names : List Text) → is_other_name kind name ≡ false → filter (is_other_name kind) (name ∷ names) ≡ filter (is_other_name kind) names
+other_later kind name names e = rw e refl
 
 -- an element more at the end of what was listed
 pub moved : {A : Type 0} (xs : List A) (x : A) (ys : List A) → xs ++ x ∷ ys ≡ (xs ++ x ∷ []) ++ ys
 moved xs x ys = sym (append_assoc xs (x ∷ []) ys)
+
+abbrev firsts : List (Text × Val) → List Text
+firsts ps = map (λ p. p.0) ps
+
+indices_firsts : (ps : List (Text × Val)) → filter_map index_of (firsts ps) ≡ filter_map (λ p. index_of p.0) ps
+indices_firsts [] = refl
+indices_firsts (p ∷ ps) = rw (indices_firsts ps) refl
+
+-- what the names of an object list
+pub keys_listed : (c : Cell) (names : List Text) → names ≡ firsts c.properties → map decimal (rising (filter_map index_of names)) ++ filter (is_other_name c.kind) names ≡ keys c
+unfolding keys indices other_names
+keys_listed c names e = rw (e, indices_firsts c.properties) refl

@@ -143,6 +143,6 @@ impl ObjectCell {
     pub fn keys(&self, alloc: Global) -> Result<Names, NoMemory>
         ensures { IfOk result (λ names. names ≡ keys self.now) }
     {
-        keys_of(alloc, self.kind, self.properties.as_slice())
+        keys_of(alloc, self.kind, self.properties.names())
     }
 }

@@ -57,11 +57,18 @@ pub fn index_of(name: &[u16]) -> Option<u32>
 // `length`.
 const LENGTH: [u16; 6] = [108, 101, 110, 103, 116, 104];
 
+/// Whether these units are `length`.
+pub(crate) fn names_length(name: &[u16]) -> bool
+    ensures { result ≡ is_length name.now }
+{
+    name == LENGTH.as_slice()
+}
+
 /// Whether a name is `length`.
 pub fn is_length(name: &Units) -> bool
     ensures { result ≡ is_length name.now }
 {
-    name.as_slice() == LENGTH.as_slice()
+    names_length(name.as_slice())
 }
 
 /// Puts the digits of a number at the end of a text.

@@ -1,25 +1,25 @@
 //! The names that are listed (ECMA-262 5.1, section 15.2.3.14, in the order of this profile).
 
-ghost use Rattle.std.specs.Prelude.{◌≡◌, ◌++◌, map, OnOk, IfOk};
-ghost use Rattle.es5_tree.specs.Objects.Names.{decimal};
-ghost use Rattle.es5_tree.specs.Objects.Cells.{indices, rising, is_other_name, other_names};
+ghost use Rattle.std.specs.Prelude.{◌≡◌, ◌++◌, map, filter, OnOk, IfOk};
+ghost use Rattle.std.specs.List.{filter_map};
+ghost use Rattle.es5_tree.specs.Objects.Names.{decimal, index_of};
+ghost use Rattle.es5_tree.specs.Objects.Cells.{rising, is_other_name};
 ghost use Rattle.es5_objects.specs.Values.{kind_of};
-ghost use Rattle.es5_objects.specs.Properties.{entries};
+ghost use Rattle.es5_objects.specs.Properties.{names};
 
-use crate::index::{decimal, index_of, is_length};
+use crate::index::{decimal, index_of, names_length};
 use crate::kind::CellKind;
 use crate::list::append;
-use crate::properties::Property;
 use opal_base::{Names, NoMemory, Units};
 use std::alloc::Global;
 
 // The array indices among the names, in the order of making.
-fn indices_of(alloc: Global, items: &[Property]) -> Result<Vec<u32>, NoMemory>
-    ensures { IfOk result (λ found. found.items ≡ indices (entries items.now)) }
+fn indices_of(alloc: Global, keys: &[Vec<u16>]) -> Result<Vec<u32>, NoMemory>
+    ensures { IfOk result (λ found. found.items ≡ filter_map index_of (names keys.now)) }
 {
     let mut found = Vec::new(alloc);
-    for property in items {
-        if let Some(index) = index_of(property.name.as_slice()) {
+    for key in keys {
+        if let Some(index) = index_of(key.as_slice()) {
             append(&mut found, index)?;
         }
     }
@@ -48,31 +48,41 @@ fn push_indices(alloc: Global, names: &mut Names, numbers: &[u32]) -> Result<(),
 }
 
 // Whether a name is no index, nor the `length` of an array or of an arguments object.
-fn is_other_name(kind: CellKind, name: &Units) -> bool
+fn is_other_name(kind: CellKind, name: &[u16]) -> bool
     ensures { result ≡ is_other_name (kind_of kind) name.now }
 {
-    index_of(name.as_slice()).is_none() && !(kind.has_length() && is_length(name))
+    index_of(name).is_none() && !(kind.has_length() && names_length(name))
 }
 
-// Puts these names at the end, in the order of making.
-fn push_others(names: &mut Names, kind: CellKind, items: &[Property]) -> Result<(), NoMemory>
-    ensures { OnOk result (names.new ≡ names.old ++ other_names (kind_of kind) (entries items.now)) }
+// The text of these units again.
+fn copy(key: &Vec<u16>) -> Result<Units, NoMemory>
+    ensures { IfOk result (λ text. text ≡ key.now.items) }
 {
-    for property in items {
-        if is_other_name(kind, &property.name) {
-            names.push(property.name.try_clone()?)?;
+    match key.clone() {
+        Ok(units) => Ok(Units::from_vec(units)),
+        Err(_) => Err(NoMemory),
+    }
+}
+
+// Puts the other names at the end, in the order of making.
+fn push_others(list: &mut Names, kind: CellKind, keys: &[Vec<u16>]) -> Result<(), NoMemory>
+    ensures { OnOk result (list.new ≡ list.old ++ filter (is_other_name (kind_of kind)) (names keys.now)) }
+{
+    for key in keys {
+        if is_other_name(kind, key.as_slice()) {
+            list.push(copy(key)?)?;
         }
     }
     Ok(())
 }
 
 /// Array indices first in rising order, then the other names in the order of making.
-pub fn keys_of(alloc: Global, kind: CellKind, items: &[Property]) -> Result<Names, NoMemory>
-    ensures { IfOk result (λ names. names ≡ map decimal (rising (indices (entries items.now))) ++ other_names (kind_of kind) (entries items.now)) }
+pub fn keys_of(alloc: Global, kind: CellKind, keys: &[Vec<u16>]) -> Result<Names, NoMemory>
+    ensures { IfOk result (λ list. list ≡ map decimal (rising (filter_map index_of (names keys.now))) ++ filter (is_other_name (kind_of kind)) (names keys.now)) }
 {
-    let numbers = sorted(indices_of(alloc, items)?)?;
-    let mut names = Names::new(alloc);
-    push_indices(alloc, &mut names, &numbers)?;
-    push_others(&mut names, kind, items)?;
-    Ok(names)
+    let numbers = sorted(indices_of(alloc, keys)?)?;
+    let mut list = Names::new(alloc);
+    push_indices(alloc, &mut list, &numbers)?;
+    push_others(&mut list, kind, keys)?;
+    Ok(list)
 }

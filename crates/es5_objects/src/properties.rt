@@ -1,30 +1,22 @@
-ghost use Rattle.std.specs.Prelude.{◌≡◌, [], bytes_eq, OnOk, OnErr};
-ghost use Rattle.std.specs.List.{position};
+ghost use Rattle.std.specs.Prelude.{◌≡◌, [], map, OnOk, OnErr};
 ghost use Rattle.std.specs.Option.{option_copied};
 ghost use Rattle.es5_tree.specs.Values.{find_own};
 ghost use Rattle.es5_tree.specs.Objects.Cells.{with_property, without_property, elements_below, stays_below};
 ghost use Rattle.es5_tree.specs.Objects.Names.{index_of};
 ghost use Rattle.es5_objects.specs.Values.{value_of, value_if};
-ghost use Rattle.es5_objects.specs.Properties.{entries};
+ghost use Rattle.es5_objects.specs.Properties.{names};
 
 use crate::index::index_of;
-use crate::list::append;
 use crate::value::EsValue;
+use indexmap::IndexMap;
 use opal_base::{NoMemory, Units};
 use std::alloc::Global;
 use std::marker::Model;
 
-/// A property: its name and its value.
-#[derive(Drop)]
-pub struct Property {
-    pub name: Units,
-    pub value: EsValue,
-}
-
-/// Own properties in the order of making.
+/// Own properties in the order of making, looked up by the units of their names.
 #[derive(Drop)]
 pub struct Properties {
-    items: Vec<Property>,
+    items: IndexMap<Vec<u16>, EsValue>,
 }
 
 impl Model for Properties {
@@ -35,33 +27,14 @@ impl Model for Properties {
 
     ghost use Rattle.es5_objects.specs.Properties.{entries};
 
-    ghost view = { λ properties. entries properties.items.items };
-}
-
-// The value of the property of this name.
-fn find<'a>(items: &'a [Property], name: &[u16]) -> Option<&'a EsValue>
-    ensures { value_if (option_copied result) ≡ find_own (entries items.now) name.now }
-{
-    for property in items {
-        if property.name.as_slice() == name {
-            return Some(&property.value);
-        }
-    }
-    None
-}
-
-// The place of the property of this name.
-fn place_of(items: &[Property], name: &[u16]) -> Option<usize>
-    ensures { result ≡ position (λ p. bytes_eq p.name name.now) items.now }
-{
-    items.iter().position(|p| p.name.as_slice() == name)
+    ghost view = { λ properties. entries properties.items.entries };
 }
 
 // Whether a name is no index, or one below the end.
-fn is_below(name: &Units, end: u32) -> bool
+fn is_below(name: &[u16], end: u32) -> bool
     ensures { result ≡ stays_below end (index_of name.now) }
 {
-    match index_of(name.as_slice()) {
+    match index_of(name) {
         Some(index) => index < end,
         None => true,
     }
@@ -73,7 +46,7 @@ impl Properties {
         ensures { result ≡ [] }
     {
         Properties {
-            items: Vec::new(alloc),
+            items: IndexMap::new(alloc),
         }
     }
 
@@ -81,7 +54,7 @@ impl Properties {
     pub fn find(&self, name: &Units) -> Option<&EsValue>
         ensures { value_if (option_copied result) ≡ find_own self.now name.now }
     {
-        find(&self.items, name.as_slice())
+        self.items.get(name.as_slice())
     }
 
     /// Changes the value of a property in its place, or puts the property at the end. Where no memory
@@ -90,35 +63,54 @@ impl Properties {
         ensures ok { OnOk result (self.new ≡ with_property self.old name (value_of value)) }
         ensures err { OnErr result (self.new ≡ self.old) }
     {
-        match place_of(&self.items, name.as_slice()) {
+        match self.items.get_index_of(name.as_slice()) {
             Some(place) => {
-                let property = &mut self.items[place];
-                property.value = value;
+                self.items[place] = value;
                 Ok(())
             }
-            None => append(&mut self.items, Property { name, value }),
+            None => self.put_last(name, value),
         }
     }
 
-    /// Takes the properties of this name out.
+    // Puts a property as `put` does, and takes memory for its name.
+    fn put_last(&mut self, name: Units, value: EsValue) -> Result<(), NoMemory>
+        ensures ok { OnOk result (self.new ≡ with_property self.old name (value_of value)) }
+        ensures err { OnErr result (self.new ≡ self.old) }
+    {
+        let key = match Vec::from_slice(*self.items.allocator(), name.as_slice()) {
+            Ok(key) => key,
+            Err(_) => return Err(NoMemory),
+        };
+        match self.items.insert(key, value) {
+            Ok(_) => Ok(()),
+            Err(_) => Err(NoMemory),
+        }
+    }
+
+    /// Takes the property of this name out.
     pub fn delete(&mut self, name: &Units)
         ensures { self.new ≡ without_property self.old name.now }
     {
-        self.items
-            .retain(|property| property.name.as_slice() != name.as_slice());
+        if let Some(place) = self.items.get_index_of(name.as_slice()) {
+            self.items.shift_remove_index(place);
+        }
     }
 
     /// Takes the elements from this index on out.
     pub fn keep_below(&mut self, end: u32)
         ensures { self.new ≡ elements_below end self.old }
     {
-        self.items.retain(|property| is_below(&property.name, end));
+        self.items.retain(
+            |name: &Vec<u16>, value: &mut EsValue| -> bool
+                ensures { (result ≡ stays_below end (index_of name.now.items)) × (value.new ≡ value.old) }
+            { is_below(name.as_slice(), end) },
+        );
     }
 
-    /// The properties in the order of making.
-    pub fn as_slice(&self) -> &[Property]
-        ensures { entries result.now ≡ self.now }
+    /// The units of the names, in the order of making.
+    pub fn names(&self) -> &[Vec<u16>]
+        ensures { names result.now ≡ map (λ p. p.0) self.now }
     {
-        &self.items
+        self.items.keys().as_slice()
     }
 }

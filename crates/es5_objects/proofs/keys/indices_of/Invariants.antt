@@ -1,7 +1,8 @@
 use Rattle.std.proofs.Common.{◌≡◌, ◌++◌, drop}
-use Rattle.es5_tree.specs.Objects.Cells.{indices}
-use Rattle.es5_objects.specs.Properties.{entries}
+use Rattle.std.specs.List.{filter_map}
+use Rattle.es5_tree.specs.Objects.Names.{index_of}
+use Rattle.es5_objects.specs.Properties.{names}
 use Rattle.es5_objects.proofs.keys.indices_of.Given as goal
 
-abbrev pub invariant-loop-property : goal.invariant-loop-property
-invariant-loop-property l = indices (entries l.items) ≡ l.found.items ++ indices (entries (drop l.property-index l.items))
+abbrev pub invariant-loop-key : goal.invariant-loop-key
+invariant-loop-key l = filter_map index_of (names l.keys) ≡ l.found.items ++ filter_map index_of (names (drop l.key-index l.keys))
