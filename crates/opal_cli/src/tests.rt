@@ -447,7 +447,7 @@ fn first_wrong(rt: &HostRuntime, rows: &[Row<'_>]) -> Result<Option<usize>, Fail
 
 #[test]
 fn whole_scripts_are_run(rt: HostRuntime) -> Result<(), Fail> {
-    let rows: [Row<'_>; 12] = [
+    let rows: [Row<'_>; 13] = [
         (
             &["run", "x.js"],
             b"'use strict';\nvar i = 0;\nwhile (i < 3) { $host.write(i + ';'); i = i + 1; }",
@@ -544,6 +544,14 @@ fn whole_scripts_are_run(rt: HostRuntime) -> Result<(), Fail> {
             b"",
             b"uncaught: TypeError: no properties\n",
         ),
+        (
+            &["run", "x.js"],
+            b"'use strict';var a = Object.create(null);Object.setPrototypeOf(a, a);",
+            b"",
+            1,
+            b"",
+            b"uncaught: TypeError: cyclic link\n",
+        ),
     ];
     assert_eq!(rt; first_wrong(&rt, &rows)?, None);
     Ok(())
@@ -633,12 +641,12 @@ fn scripts_stop_at_their_budgets(rt: HostRuntime) -> Result<(), Fail> {
             b"out of steps: 23\n",
         ),
         (
-            &["run", "x.js", "--steps", "999"],
-            b"'use strict';\nwhile (true) {}",
+            &["run", "x.js", "--steps", "1000"],
+            b"'use strict';while (true) { }",
             b"",
             8,
             b"",
-            b"out of steps: 999\n",
+            b"out of steps: 1000\n",
         ),
         (
             &["run", "x.js", "--cells", "1000"],
