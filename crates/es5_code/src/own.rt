@@ -2,12 +2,13 @@
 //! section 10.5). The functions in it have code of their own.
 
 ghost use Rattle.std.specs.Prelude.{◌≡◌, [], ◌∷◌, ◌++◌, ◌||◌, false, bytes_eq, map, option_map, OnOk, IfOk};
-ghost use Rattle.std.specs.List.{list_any};
 ghost use Rattle.es5_evaluation.specs.Declared.{arguments_name, catch_code, each, expr_code, kind_code, new_names, optional, optional_list, own_code, stmt_code};
-ghost use Rattle.es5_code.specs.Own.{gather, with_new};
+ghost use Rattle.name_set.specs.Names.{with_new};
+ghost use Rattle.es5_code.specs.Own.{gather};
 ghost use Rattle.es5_code.specs.Trees.{arguments_if};
 
 use es5_tree::{Catch, EsExpr, EsKind, EsStmt, EsStmts, is_word, word_units};
+use name_set::NameSet;
 use opal_base::{Names, NoMemory, Units};
 use sqlite_items::Boxed;
 use std::alloc::Global;
@@ -218,23 +219,6 @@ pub(crate) fn own_names(alloc: Global, body: &EsStmts) -> Result<OwnNames, NoMem
     Ok(own)
 }
 
-fn same(one: &Units, other: &Units) -> bool
-    ensures { result ≡ bytes_eq one.now other.now }
-{
-    one.as_slice() == other.as_slice()
-}
-
-fn has_name(names: &Names, name: &Units) -> bool
-    ensures { result ≡ list_any (bytes_eq name.now) names.now }
-{
-    for i in 0..names.len() {
-        if same(name, names.at(i)) {
-            return true;
-        }
-    }
-    false
-}
-
 /// Puts copies of more names behind.
 fn extend(names: &mut Names, more: &Names) -> Result<(), NoMemory>
     ensures { OnOk result (names.new ≡ names.old ++ more.now) }
@@ -245,27 +229,26 @@ fn extend(names: &mut Names, more: &Names) -> Result<(), NoMemory>
     Ok(())
 }
 
-/// Puts a copy of a name behind the new ones, if it is none of these and of the known ones.
-fn put_new(known: &Names, name: &Units, new: &mut Names) -> Result<(), NoMemory>
-    ensures { OnOk result (new.new ≡ with_new known.now name.now new.old) }
+/// Puts a copy of a name behind the new ones, if it isn't known yet.
+fn put_new(known: &mut NameSet, name: &Units, new: &mut Names) -> Result<(), NoMemory>
+    ensures known { OnOk result (known.new ≡ with_new known.old name.now known.old) }
+    ensures new { OnOk result (new.new ≡ with_new known.old name.now new.old) }
 {
-    if has_name(known, name) {
-        return Ok(());
+    if known.insert(name)? {
+        new.push(name.try_clone()?)
+    } else {
+        Ok(())
     }
-    if has_name(new, name) {
-        return Ok(());
-    }
-    let name = name.try_clone()?;
-    new.push(name)
 }
 
 /// Copies of these names without those that are known or stood before.
 pub(crate) fn new_names(alloc: Global, known: &Names, names: &Names) -> Result<Names, NoMemory>
     ensures { IfOk result (λ new. new ≡ new_names known.now names.now) }
 {
+    let mut seen = NameSet::of(alloc, known)?;
     let mut new = Names::new(alloc);
     for i in 0..names.len() {
-        put_new(known, names.at(i), &mut new)?;
+        put_new(&mut seen, names.at(i), &mut new)?;
     }
     Ok(new)
 }

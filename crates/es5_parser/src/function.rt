@@ -11,21 +11,22 @@ ghost use Rattle.es5_parser.specs.Lists.{GivesName, GivesNames};
 
 use crate::names::Parser;
 use descent::Fail;
-use es5_reading::making::{expr, name_of};
+use es5_reading::making::{add_name, expr, name_of};
 use es5_reading::parts::{Operand, Part, Reading};
 use es5_reading::tokens::Tokens;
 use es5_tree::{EsKind, EsMark, Keyword, Terminal};
+use name_set::NameSet;
 use opal_base::{Names, Units};
 use std::alloc::Global;
 
 // Names between commas, none twice.
-fn names(alloc: Global, tokens: &mut Tokens<'_>) -> Result<Names, Fail>
+fn names(alloc: Global, tokens: &mut Tokens<'_>) -> Result<NameSet, Fail>
     ensures { GivesNames (spec.params_from (length (ahead tokens.old)) [] (ahead tokens.old)) result (ahead tokens.new) }
 {
-    let mut found = Names::new(alloc);
+    let mut found = NameSet::new(alloc);
     for _turn in 0..tokens.left() {
         let name = tokens.take_new(&[Terminal::Name], &found)?;
-        found.push(name_of(alloc, name)?)?;
+        add_name(&mut found, &name_of(alloc, name)?)?;
         if !tokens.sees(Terminal::Mark(EsMark::Comma)) {
             return Ok(found);
         }
@@ -35,11 +36,11 @@ fn names(alloc: Global, tokens: &mut Tokens<'_>) -> Result<Names, Fail>
 }
 
 #[tactic(auto, unfolding(crate::specs::Lists::some_params))]
-fn some_names(alloc: Global, tokens: &mut Tokens<'_>) -> Result<Names, Fail>
+fn some_names(alloc: Global, tokens: &mut Tokens<'_>) -> Result<NameSet, Fail>
     ensures { GivesNames (spec.some_params (ahead tokens.old)) result (ahead tokens.new) }
 {
     if !tokens.sees(Terminal::Name) {
-        return Ok(Names::new(alloc));
+        return Ok(NameSet::new(alloc));
     }
     names(alloc, tokens)
 }
@@ -52,7 +53,7 @@ fn parameters(alloc: Global, tokens: &mut Tokens<'_>) -> Result<Names, Fail>
     tokens.take(Terminal::Mark(EsMark::OpenParen))?;
     let names = some_names(alloc, tokens)?;
     tokens.take(Terminal::Mark(EsMark::CloseParen))?;
-    Ok(names)
+    Ok(names.to_names(alloc)?)
 }
 
 // The name of a function, where there is one.

@@ -13,11 +13,12 @@ ghost use Rattle.es5_parser.specs.Lists.{GivesPair, GivesPairs};
 
 use crate::names::Parser;
 use descent::Fail;
-use es5_reading::making::{expr, name_of};
+use es5_reading::making::{add_name, expr, name_of};
 use es5_reading::parts::{Operand, Part, Reading};
 use es5_reading::tokens::Tokens;
 use es5_tree::{EsExpr, EsKind, EsMark, Level, Terminal};
-use opal_base::{Names, Units};
+use name_set::NameSet;
+use opal_base::Units;
 use sqlite_items::Items;
 use std::alloc::Global;
 
@@ -31,13 +32,13 @@ pub struct Pair {
 /// Keys, and as many values.
 #[derive(Drop)]
 pub struct Pairs {
-    pub keys: Names,
+    pub keys: NameSet,
     pub values: Items<EsExpr>,
 }
 
 impl<F: Fn(Global, &mut Tokens<'_>, Part, u32) -> Result<Reading, Fail>> Parser<F> {
     #[tactic(auto, unfolding(crate::specs::Lists::next_pair))]
-    fn next_pair(&self, tokens: &mut Tokens<'_>, keys: &Names) -> Result<Pair, Fail>
+    fn next_pair(&self, tokens: &mut Tokens<'_>, keys: &NameSet) -> Result<Pair, Fail>
         requires below { Nests self.now.depth (F.pre self.now.part) (F.post self.now.part) }
         ensures { GivesPair (spec.next_pair self.now.depth keys.now (ahead tokens.old)) result (ahead tokens.new) }
     {
@@ -54,14 +55,14 @@ impl<F: Fn(Global, &mut Tokens<'_>, Part, u32) -> Result<Reading, Fail>> Parser<
         requires below { Nests self.now.depth (F.pre self.now.part) (F.post self.now.part) }
         ensures { GivesPairs (spec.pairs_from (length (ahead tokens.old)) self.now.depth [] [] (ahead tokens.old)) result (ahead tokens.new) }
     {
-        let mut keys = Names::new(self.alloc);
+        let mut keys = NameSet::new(self.alloc);
         let mut values = Items::new(self.alloc);
         for _turn in 0..tokens.left() {
             if !tokens.sees_one_of(&[Terminal::Name, Terminal::Arguments]) {
                 return Ok(Pairs { keys, values });
             }
             let pair = self.next_pair(tokens, &keys)?;
-            keys.push(pair.key)?;
+            add_name(&mut keys, &pair.key)?;
             values.push(pair.value)?;
             if !tokens.sees(Terminal::Mark(EsMark::Comma)) {
                 return Ok(Pairs { keys, values });
@@ -80,6 +81,7 @@ impl<F: Fn(Global, &mut Tokens<'_>, Part, u32) -> Result<Reading, Fail>> Parser<
         let first = tokens.take(Terminal::Mark(EsMark::OpenBrace))?;
         let Pairs { keys, values } = self.pairs(tokens)?;
         tokens.take(Terminal::Mark(EsMark::CloseBrace))?;
+        let keys = keys.to_names(self.alloc)?;
         let kind = EsKind::Object { keys, values };
         Ok(Operand {
             first,

@@ -1,6 +1,6 @@
 //! Expressions and statements from tokens and their parts.
 
-ghost use Rattle.std.specs.Prelude.{◌≡◌, ◌<◌, ◌^◌, map, IfOk, Some};
+ghost use Rattle.std.specs.Prelude.{◌≡◌, ◌<◌, ◌^◌, ◌++◌, ◌∷◌, [], map, IfOk, OnOk, Some};
 ghost use Rattle.es5_tree.specs.Grammar.Nodes as act;
 ghost use Rattle.es5_tree.specs.Grammar.Nodes.{expression, statement};
 ghost use Rattle.es5_tree.specs.Grammar.Terminals as terminals;
@@ -13,6 +13,7 @@ use es5_tree::{
     Catch, EsExpr, EsKind, EsMark, EsStmt, EsStmts, EsToken, EsTokenKind, Keyword, Operator,
     Terminal, expr_depth, is_word, stmt_depth,
 };
+use name_set::NameSet;
 use opal_base::{NoMemory, Pos, Units};
 use sqlite_items::Boxed;
 use std::alloc::{AllocError, Global};
@@ -37,6 +38,18 @@ pub fn name_of(alloc: Global, token: &EsToken) -> Result<Units, NoMemory>
     match &token.kind {
         EsTokenKind::Word(name) => name.try_clone(),
         _ => Ok(Units::new(alloc)),
+    }
+}
+
+/// Puts a name behind names among which it isn't. Where it is, nothing is put, and the answer is
+/// `NoMemory`; `take_new` sees to it that this doesn't happen.
+pub fn add_name(names: &mut NameSet, name: &Units) -> Result<(), NoMemory>
+    ensures { OnOk result (names.new ≡ names.old ++ name.now ∷ []) }
+{
+    if names.insert(name)? {
+        Ok(())
+    } else {
+        Err(NoMemory)
     }
 }
 

@@ -16,7 +16,7 @@ ghost use Rattle.es5_reading.specs.Gives.{ahead, GivesToken, codes};
 use crate::terminal::{code_of, terminal_of};
 use descent::{Fail, either};
 use es5_tree::{EsMark, EsToken, EsTokenKind, Keyword, Terminal, is_word};
-use opal_base::{Names, Units};
+use name_set::NameSet;
 
 /// The tokens that are left.
 #[derive(Drop)]
@@ -42,31 +42,21 @@ fn is_directive(token: &EsToken) -> bool
     }
 }
 
-fn same(one: &[u16], other: &[u16]) -> bool
-    ensures { result ≡ bytes_eq one.now other.now }
-{
-    one == other
-}
-
-fn spells(token: &EsToken, name: &Units) -> bool
-    ensures { result ≡ bytes_eq name.now (name_of token.now) }
+// The name that a token spells.
+fn spelling(token: &EsToken) -> &[u16]
+    ensures { result.now ≡ name_of token.now }
 {
     match &token.kind {
-        EsTokenKind::Word(found) => same(name.as_slice(), found.as_slice()),
-        _ => same(name.as_slice(), &[]),
+        EsTokenKind::Word(name) => name.as_slice(),
+        _ => &[],
     }
 }
 
 // Whether the token spells a name that is none of those.
-fn is_new(names: &Names, token: &EsToken) -> bool
+fn is_new(names: &NameSet, token: &EsToken) -> bool
     ensures { result ≡ is_new names.now token.now }
 {
-    for at in 0..names.len() {
-        if spells(token, names.at(at)) {
-            return false;
-        }
-    }
-    true
+    !names.contains(spelling(token))
 }
 
 fn is_one_of(terminal: Terminal, terminals: &[Terminal]) -> bool
@@ -228,7 +218,7 @@ impl<'a> Tokens<'a> {
     }
 
     /// Takes one of these terminals, where it spells a name that is none of those.
-    pub fn take_new(&mut self, terminals: &[Terminal], names: &Names) -> Result<&'a EsToken, Fail>
+    pub fn take_new(&mut self, terminals: &[Terminal], names: &NameSet) -> Result<&'a EsToken, Fail>
         ensures { GivesToken (read_token (token_such token_code (one_of (codes terminals.now)) (is_new names.now)) (ahead self.old)) result (ahead self.new) }
     {
         let rest: &'a [EsToken] = self.rest;
