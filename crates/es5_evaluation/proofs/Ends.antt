@@ -1,8 +1,8 @@
 -- A run has one end, its output only grows, and so do its cells.
 use Rattle.std.proofs.Common.{◌≡◌, ℕ, ◌+◌, ◌-◌, ◌≤◌, List, [], ◌∷◌, ◌++◌, refl, sym, ap, ◌∙◌, subst, arith, inl, inr, ⊎_elim, append_assoc, append-nil}
 use Rattle.std.proofs.lemmas.Bool.{cases_lt}
-use Rattle.opal_base.specs.Shown.{HostCall, Wrote, Ended, Shows, output_of}
-use Rattle.opal_base.specs.Text.{utf8_of}
+use Rattle.opal_base.specs.Shown.{Ended, Shows, output_of}
+use Rattle.opal_base.proofs.Outputs.{output_both}
 use Rattle.es5_tree.specs.declared.tree.Script.{Script}
 use Rattle.es5_tree.specs.Values.{Text}
 use Rattle.es5_tree.specs.Ends.{EsEnd, Outside}
@@ -42,13 +42,6 @@ one_end_is script input n m output other end last e f =
 
 -- ---- output
 
--- the output of later calls goes on from that of the earlier
-pub output_grows_by : (more calls : List HostCall) → (rest : List ℕ) × (output_of (more ++ calls) ≡ output_of calls ++ rest)
-output_grows_by [] calls = ([], sym (append-nil (output_of calls)))
-output_grows_by (Wrote text ∷ more) calls =
-    let h = output_grows_by more calls in
-    (h.0 ++ utf8_of text, ap (λ l. l ++ utf8_of text) h.1 ∙ append_assoc (output_of calls) h.0 (utf8_of text))
-
 shows_own : (o : Outcome) → Shows (shown_by o) (output_of (state_of o).calls)
 shows_own (task.Ended c s g) = inr (end_of c s.heap, refl)
 shows_own (Left kind p s) = inr (Outside kind p, refl)
@@ -74,8 +67,8 @@ output_grows_is script input n k output e =
     let o = outcome script input n in
     let later = outcome script input (n + k) in
     let g = (state_later k o later (outcome_more script input n k)).calls in
-    let rest = output_grows_by g.0 (state_of o).calls in
-    (rest.0, subst (λ l. Shows (shown_by later) l) (ap output_of g.1 ∙ rest.1 ∙ ap (λ l. l ++ rest.0) (shows_no_other o output e)) (shows_own later))
+    let rest = output_of g.0 in
+    (rest, subst (λ l. Shows (shown_by later) l) (ap output_of g.1 ∙ output_both g.0 (state_of o).calls ∙ ap (λ l. l ++ rest) (shows_no_other o output e)) (shows_own later))
 
 -- ---- cells
 

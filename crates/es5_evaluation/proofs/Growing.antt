@@ -1,7 +1,7 @@
 -- Runs with more units: an end stays, what was written goes on, and no cell goes.
 use Rattle.std.proofs.Common.{◌≡◌, ℕ, zero, suc, ◌+◌, ◌≤◌, List, [], ◌∷◌, ◌++◌, length, set, refl, sym, ap, ◌∙◌, subst, arith, append_assoc}
 use Rattle.std.proofs.lemmas.List.{length-append, length-set}
-use Rattle.opal_base.specs.Shown.{HostCall, Wrote}
+use Rattle.opal_base.specs.Shown.{HostCall, Wrote, Asked}
 use Rattle.es5_evaluation.specs.State.{State}
 use Rattle.es5_evaluation.specs.Task.{Completion, Request, Task, Done, Leaves, Ask, Look, Set, Make, Keep, Enter, Store, Print, Read, ◌>>=◌, Outcome, Ended, Left, Going, Answers, walk}
 use Rattle.es5_evaluation.specs.Evaluate.{perform}
@@ -57,7 +57,7 @@ walk_adds A h g (Keep c f) s = later_trans s _ _ (record { calls = ([], refl); o
 walk_adds A h g (Enter a f) s = later_trans s _ _ (record { calls = ([], refl); objects = omega arith; records = no_fewer s.records (a ∷ []) }) (walk_adds A h g (f _) _)
 walk_adds A h g (Store r a t) s = later_trans s _ _ (record { calls = ([], refl); objects = omega arith; records = as_many s.records r a }) (walk_adds A h g t _)
 walk_adds A h g (Print x t) s = later_trans s _ _ (record { calls = (Wrote x ∷ [], refl); objects = omega arith; records = omega arith }) (walk_adds A h g t _)
-walk_adds A h g (Read n t) s = later_trans s _ _ (record { calls = ([], refl); objects = omega arith; records = omega arith }) (walk_adds A h g t _)
+walk_adds A h g (Read n t) s = later_trans s _ _ (record { calls = (Asked ∷ [], refl); objects = omega arith; records = omega arith }) (walk_adds A h g t _)
 
 pub ask_adds : (g : ℕ) → Adds (ask g)
 unfolding ask

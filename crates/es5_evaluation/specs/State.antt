@@ -1,4 +1,4 @@
--- The state of a run: objects, the code of the functions, activation records, the input, and what was written (ECMA-262 5.1, sections 8.6, 10.2 and 13.2).
+-- The state of a run: objects, the code of the functions, activation records, the input, and what the host was called for (ECMA-262 5.1, sections 8.6, 10.2 and 13.2).
 use Rattle.std.specs.Prelude.{ℕ, zero, suc, ◌||◌, Bool, if◌then◌else◌, List, [], length, slice_index_or, slice_set, Option, None, Some, is_some}
 use Rattle.opal_base.specs.Shown.{HostCall}
 use Rattle.es5_tree.specs.declared.tree.EsStmt.{EsStmt}
@@ -18,7 +18,7 @@ pub record Activation : Type 0 where
   pub constants : List (Text × Val)
   pub outer : Option ℕ
 
--- An object, a function's code and a record are each known by their place in their list. The newest write stands first.
+-- An object, a function's code and a record are each known by their place in their list. The newest call of the host stands first.
 pub record State : Type 0 where
   pub heap : List Cell
   pub codes : List Code

@@ -1,7 +1,7 @@
 -- Tasks: what is done next, as a tree of small steps; and their walks, which change the state until a node begins.
 use Rattle.std.specs.Prelude.{ℕ, [], ◌∷◌, ◌++◌, length}
 use Rattle.opal_base.specs.declared.place.Pos.{Pos}
-use Rattle.opal_base.specs.Shown.{Wrote}
+use Rattle.opal_base.specs.Shown.{Wrote, Asked}
 use Rattle.es5_tree.specs.declared.tree.EsExpr.{EsExpr}
 use Rattle.es5_tree.specs.declared.tree.EsStmt.{EsStmt}
 use Rattle.es5_tree.specs.Values.{Text, Val}
@@ -55,7 +55,7 @@ pub data Task : Type 0 where
   Store : ℕ → Activation → Task → Task
   -- the host writes a text
   Print : Text → Task → Task
-  -- so many units of the input are read
+  -- a line of the input is asked for, and so many units of it are read
   Read : ℕ → Task → Task
 
 infixl 10 ◌>>=◌
@@ -94,7 +94,7 @@ abbrev pub printed : State → Text → State
 printed s x = record s { calls = Wrote x ∷ s.calls }
 
 abbrev pub has_read : State → ℕ → State
-has_read s n = record s { lines = advanced s.lines n }
+has_read s n = record s { lines = advanced s.lines n; calls = Asked ∷ s.calls }
 
 -- ---- walks
 

@@ -1,8 +1,9 @@
 -- Moves from task to task.
 use Rattle.std.proofs.Common.{◌≡◌, ℕ, ◌+◌, ◌≤◌, List, [], ◌∷◌, ◌++◌, length, Option, Some, None, Result, Ok, Err, refl, sym, ap, ◌∙◌, subst, append_assoc, append-nil}
 use Rattle.opal_base.specs.Outside.{appended}
-use Rattle.opal_base.specs.Shown.{HostCall, Wrote, output_of}
-use Rattle.opal_base.specs.Text.{utf8_of}
+use Rattle.opal_base.specs.Shown.{HostCall, output_of}
+use Rattle.opal_base.proofs.Outputs.{output_both}
+use Rattle.opal_base.proofs.Took.{appended_none, appended_twice}
 use Rattle.es5_evaluation.specs.Task.{Completion, Scope, Task, Answers, walk, ◌>>=◌}
 use Rattle.es5_evaluation.specs.Run.{at_first}
 use Rattle.es5_code.specs.declared.node.Node.{Node}
@@ -14,19 +15,6 @@ use Rattle.es5_store.specs.Store.{state_in}
 use Rattle.es5_store.specs.Steps.{Acted, Quiet, WritesOn, effect_task}
 use Rattle.es5_execution.specs.Progress.{Moves, Followed, Halted}
 
-pub appended_none : (told : Option (List ℕ)) → told ≡ appended told []
-appended_none None = refl
-appended_none (Some bytes) = ap Some (sym (append-nil bytes))
-
-pub appended_twice : (told : Option (List ℕ)) (xs ys : List ℕ) → appended (appended told xs) ys ≡ appended told (xs ++ ys)
-appended_twice None xs ys = refl
-appended_twice (Some bytes) xs ys = ap Some (append_assoc bytes xs ys)
-
--- the output of earlier calls, and then that of later ones
-pub output_both : (more calls : List HostCall) → output_of (more ++ calls) ≡ output_of calls ++ output_of more
-output_both [] calls = sym (append-nil (output_of calls))
-output_both (Wrote text ∷ more) calls = ap (λ l. l ++ utf8_of text) (output_both more calls) ∙ append_assoc (output_of calls) (output_of more) (utf8_of text)
-
 -- ---- nothing was written
 
 pub here : (T : List Node) (t : Task) (s : Store) (A : Answers) (g : ℕ) (calls : List HostCall) → WritesOn [] calls (walk A g t (state_in T s calls)) A g
@@ -34,20 +22,20 @@ here T t s A g calls = record { task = t; state = state_in T s calls; rest = [];
 
 -- an act that doesn't call the host
 pub quiet_acts : (r : Result Effect Halt) (T : List Node) (ρ : Scope) (t : Task) (old new : Store) (told : Option (List ℕ)) → Quiet r T ρ t old new → Acted r T ρ t old new told told
-quiet_acts (Ok e) T ρ t old new told q = ([], appended_none told, q)
+quiet_acts (Ok e) T ρ t old new told q = ([], sym (appended_none told), q)
 quiet_acts (Err halt.CellsFull) T ρ t old new told q = (refl, q)
 quiet_acts (Err halt.WriteFault) T ρ t old new told q = elim q [ ]
-quiet_acts (Err halt.NoMemory) T ρ t old new told q = ([], appended_none told, λ A g k calls. here T (t >>= k) old A g calls)
+quiet_acts (Err halt.NoMemory) T ρ t old new told q = ([], sym (appended_none told), λ A g k calls. here T (t >>= k) old A g calls)
 
 -- ---- moves
 
 -- the same task over the same store
 pub follow : (T : List Node) (t u : Task) (s : Store) (told : Option (List ℕ)) → t ≡ u → Followed T t s u s told told
-follow T t u s told e = ([], appended_none told, λ A g calls. ap (λ x. walk A g x (state_in T s calls)) e)
+follow T t u s told e = ([], sym (appended_none told), λ A g calls. ap (λ x. walk A g x (state_in T s calls)) e)
 
 -- no memory was found before anything was done
 pub no_memory_here : (T : List Node) (t : Task) (s : Store) (told : Option (List ℕ)) → Halted halt.NoMemory T t s told told
-no_memory_here T t s told = ([], appended_none told, here T t s)
+no_memory_here T t s told = ([], sym (appended_none told), here T t s)
 
 -- an act, and what is left of its effect
 pub acted_next : (T : List Node) (ρ : Scope) (t u : Task) (k : Completion → Task) (e : Effect) (old new : Store) (told now : Option (List ℕ)) → Acted (Ok e) T ρ t old new told now → (effect_task T ρ e >>= k) ≡ u → Followed T (t >>= k) old u new told now
@@ -55,7 +43,7 @@ acted_next T ρ t u k e old new told now q h = (q.0, q.1, λ A g calls. q.2 A g 
 
 -- an act that stopped the run
 pub acted_halt : (T : List Node) (ρ : Scope) (t : Task) (k : Completion → Task) (h : Halt) (old new : Store) (told now : Option (List ℕ)) → Acted (Err h) T ρ t old new told now → Halted h T (t >>= k) old told now
-acted_halt T ρ t k halt.CellsFull old new told now q = ([], q.0 ∙ appended_none told, λ A g calls. q.1 A g k calls)
+acted_halt T ρ t k halt.CellsFull old new told now q = ([], q.0 ∙ sym (appended_none told), λ A g calls. q.1 A g k calls)
 acted_halt T ρ t k halt.WriteFault old new told now q = (q.0, q.1, λ A g calls. q.2 A g k calls)
 acted_halt T ρ t k halt.NoMemory old new told now q = (q.0, q.1, λ A g calls. q.2 A g k calls)
 

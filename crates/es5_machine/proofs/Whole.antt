@@ -12,7 +12,6 @@ use Rattle.es5_evaluation.specs.Task as task
 use Rattle.es5_evaluation.specs.Evaluate.{all, perform}
 use Rattle.es5_evaluation.specs.Run.{ask, run, outcome, es_run, cells_at, cells_of, at_first, shown_by, state_of, end_of, first_state, script_scope}
 use Rattle.es5_evaluation.proofs.Growing.{Later, walk_adds, ask_adds}
-use Rattle.es5_evaluation.proofs.Ends.{output_grows_by}
 use Rattle.es5_host.specs.Values.{out_of}
 use Rattle.es5_code.specs.At.{Table}
 use Rattle.es5_code.specs.Trees.{stmts_in}
@@ -28,7 +27,8 @@ use Rattle.es5_store.specs.Steps.{MakesCell, MakesOneMore, WritesOn}
 use Rattle.es5_execution.specs.declared.pending.Rest.{Rest}
 use Rattle.es5_execution.specs.declared.pending.Rest.TheVariants as rest
 use Rattle.es5_execution.specs.Progress.{Followed, Halted, beginning, rest_task}
-use Rattle.es5_execution.proofs.Moving.{appended_none, appended_twice, output_both}
+use Rattle.opal_base.proofs.Outputs.{output_both}
+use Rattle.opal_base.proofs.Took.{appended_none, appended_twice}
 use Rattle.es5_machine.specs.declared.end.RunEnd.{RunEnd}
 use Rattle.es5_machine.specs.declared.end.RunEnd.TheVariants as end
 use Rattle.es5_machine.specs.Run.{Ran, output, output_at, IsFront, FrontPieces, Ends, GoesOn, Fills, Tells, Caused, Keeps, IsAgain}
@@ -73,9 +73,7 @@ adds t s = walk_adds (ask 0) (ask_adds 0) 0 t s
 
 -- the output of a later state goes on from the earlier one
 output_later : (s t : State) → Later s t → (more : List ℕ) × (output_of t.calls ≡ output_of s.calls ++ more)
-output_later s t l =
-    let g = output_grows_by l.calls.0 s.calls in
-    (g.0, ap output_of l.calls.1 ∙ g.1)
+output_later s t l = (output_of l.calls.0, ap output_of l.calls.1 ∙ output_both l.calls.0 s.calls)
 
 abbrev all_of : State → ℕ
 all_of s = length s.heap + length s.records
@@ -258,7 +256,7 @@ abbrev pub Taken : Script → Text → ℕ → ℕ → Option (List ℕ) → Opt
 Taken script input n0 n old new = (piece : List ℕ) × (new ≡ appended old piece) × (output_at script input n ≡ output_at script input n0 ++ piece)
 
 pub taken_first : (script : Script) (input : Text) (n : ℕ) (o : Option (List ℕ)) → Taken script input n n o o
-taken_first script input n o = ([], appended_none o, sym (append-nil (output_at script input n)))
+taken_first script input n o = ([], sym (appended_none o), sym (append-nil (output_at script input n)))
 
 -- an end that is told
 told_tells : (e : Option EsEnd) (r : RunEnd) (m : Ran) (n0 : ℕ) (old new : Option (List ℕ)) → ((last : EsEnd) → e ≡ Some last → Ends m last) → (e ≡ None → ⊥) → Taken m.script m.input n0 m.steps old new → IsTold e r → Tells r m n0 old new

@@ -3,7 +3,7 @@ use Rattle.std.proofs.Common.{◌≡◌, ℕ, ◌+◌, ◌<◌, ◌≤◌, List,
 use Rattle.std.proofs.lemmas.List.{length-append, length-set, take-append-drop}
 use Rattle.opal_base.specs.declared.place.Pos.{Pos}
 use Rattle.opal_base.specs.Outside.{Rose, TookFront, appended}
-use Rattle.opal_base.specs.Shown.{HostCall, Wrote, output_of}
+use Rattle.opal_base.specs.Shown.{HostCall, Wrote, Asked, output_of}
 use Rattle.opal_base.specs.Text.{utf8_of}
 use Rattle.es5_tree.specs.Values.{Text, Val, Undefined, Obj}
 use Rattle.es5_tree.specs.Objects.Cells.{Cell}
@@ -104,7 +104,7 @@ value_acted (Leaves kind) call p T ρ s new v told now codes records gave took r
 value_acted (Writes text) call p T ρ s new v told now codes records gave took read =
     (Wrote text ∷ [], took, λ A g k calls. ends_in T new v Undefined (printed (state_in T s calls) text) (Wrote text ∷ calls) A g k gave.0 (state_is T new (Wrote text ∷ calls) _ _ _ _ (ap (λ h. h.cells) gave.1) (ap (map (code_in T)) codes) (ap records_of records) read))
 value_acted (Reads w n) call p T ρ s new v told now codes records gave took read =
-    ([], took ∙ told_nothing told, λ A g k calls. ends_in T new v w (has_read (state_in T s calls) n) calls A g k gave.0 (state_is T new calls _ _ _ _ (ap (λ h. h.cells) gave.1) (ap (map (code_in T)) codes) (ap records_of records) read))
+    (Asked ∷ [], took ∙ told_nothing told, λ A g k calls. ends_in T new v w (has_read (state_in T s calls) n) (Asked ∷ calls) A g k gave.0 (state_is T new (Asked ∷ calls) _ _ _ _ (ap (λ h. h.cells) gave.1) (ap (map (code_in T)) codes) (ap records_of records) read))
 
 -- a value comes with at most one object more, and with none where no object is made
 pub grows : (r : Row) (w : Val) (old new : Heap) → Gave r w old new → (new.capacity ≡ old.capacity) × (length old.cells ≤ length new.cells) × (length new.cells ≤ length old.cells + 1)

@@ -3,14 +3,16 @@ use Rattle.std.specs.Prelude.{◌≡◌, ◌⊎◌, ℕ, ◌<◌, ◌≤◌, Lis
 use Rattle.std.specs.List.{flat_map}
 use Rattle.opal_base.specs.Text.{utf8_of}
 
--- a call of the host: a text was written
+-- a call of the host: a text was written, or a line of the input was asked for
 pub data HostCall : Type 0 where
   Wrote : List ℕ → HostCall
+  Asked : HostCall
 
 -- The output of host calls, of which the newest stands first: the join of the UTF-8 of each written text by itself.
 abbrev pub output_of : List HostCall → List ℕ
 output_of [] = []
 output_of (Wrote text ∷ earlier) = output_of earlier ++ utf8_of text
+output_of (Asked ∷ earlier) = output_of earlier
 
 -- the bytes that were written, and how it ended, or that it goes on
 pub data Shown (End : Type 0) : Type 0 where

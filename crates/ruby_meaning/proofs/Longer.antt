@@ -1,8 +1,8 @@
 -- What more units change in what a run shows.
 use Rattle.std.proofs.Common.{◌≡◌, inl, inr, ℕ, ◌+◌, ◌-◌, ◌≤◌, List, [], ◌∷◌, ◌++◌, sym, ap, ◌∙◌, subst, arith, append_assoc, append-nil}
 use Rattle.std.proofs.lemmas.Bool.{cases_lt}
-use Rattle.opal_base.specs.Shown.{HostCall, Wrote, output_of, Ended, Going, Shows}
-use Rattle.opal_base.specs.Text.{utf8_of}
+use Rattle.opal_base.specs.Shown.{HostCall, output_of, Ended, Going, Shows}
+use Rattle.opal_base.proofs.Outputs.{output_both}
 use Rattle.ruby_meaning.specs.declared.bundle.Bundle.{Bundle}
 use Rattle.ruby_meaning.specs.State.{Text, State, Result, Outcome, Ends, Starved, first_state}
 use Rattle.ruby_meaning.specs.Eval.{eval_to}
@@ -12,14 +12,8 @@ use Rattle.ruby_meaning.proofs.Growth.{Earlier, calls_of, Grows, grows_to}
 
 -- ---- later calls only write behind what earlier calls wrote
 
-output_behind : (newer earlier : List HostCall) → (more : List ℕ) × (output_of (newer ++ earlier) ≡ output_of earlier ++ more)
-output_behind [] earlier = ([], sym (append-nil _))
-output_behind (Wrote text ∷ newer) earlier =
-    let r = output_behind newer earlier in
-    (r.0 ++ utf8_of text, ap (λ l. l ++ utf8_of text) r.1 ∙ append_assoc (output_of earlier) r.0 (utf8_of text))
-
 output_since : (a b : List HostCall) → Earlier a b → (more : List ℕ) × (output_of b ≡ output_of a ++ more)
-output_since a b e = let r = output_behind e.0 a in (r.0, ap output_of e.1 ∙ r.1)
+output_since a b e = (output_of e.0, ap output_of e.1 ∙ output_both e.0 a)
 
 -- ---- outcomes
 
