@@ -10,7 +10,5 @@ mod numeral;
 mod piece;
 mod restriction;
 mod sign;
-#[cfg(test)]
-mod tests;
 
 pub use lex::es_lex;

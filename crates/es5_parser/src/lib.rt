@@ -15,10 +15,6 @@ mod operators;
 mod primary;
 mod read;
 mod script;
-#[cfg(test)]
-mod shapes;
 mod statements;
-#[cfg(test)]
-mod whole_tests;
 
 pub use script::{parse_script, read_script};
