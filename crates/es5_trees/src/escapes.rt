@@ -1,5 +1,7 @@
 //! Bytes in lines of printable characters.
 
+ghost use Rattle.std.specs.Prelude.{◌<◌};
+
 use std::alloc::{AllocError, Global};
 
 /// The bytes of a text in which `\n` stands for a line feed, `\xHH` for the byte of two

@@ -1,21 +1,26 @@
-//! Shows the trees of scripts. Each line of standard input is a word, a blank and a text with the
+//! Shows the tokens and the trees of scripts. Each line of standard input is a word, a blank and a text with the
 //! escapes `\n`, `\xHH` and `\\`:
 //!
+//! - `tokens`: standard output takes the tokens of the text with a blank behind each: words and
+//!   numbers as they are, texts in quotation marks, signs by their names, the end as a full stop;
+//! - `reserved`: `true` where the text is a reserved word, else `false`;
 //! - `script` or `places`, and what stands behind the directive: standard output takes the shape of
 //!   the script (module `shapes`), with the columns of its expressions for `places`;
 //! - `file`, and the whole text of a script: its shape;
 //! - `deep`, and a number, a beginning, an opening, a middle, a closing and an end with a `#` behind
 //!   each but the last: the depth of the script with the opening and the closing that many times.
 //!
-//! Where the text spells no script, standard output takes `LINE:COLUMN`, both from 0, the directive
+//! Where the text has no tokens or spells no script, standard output takes `LINE:COLUMN`, both from 0, the directive
 //! counted.
 #![tactic(auto)]
 
 mod escapes;
 mod shapes;
+mod tokens;
 
 use crate::escapes::unescaped;
 use crate::shapes::shape;
+use crate::tokens::{reserved, tokens};
 use es5_parser::read_script;
 use es5_tree::{EsStop, es_depth};
 use opal_base::Pos;
@@ -46,6 +51,8 @@ fn main(rt: HostRuntime) -> io::Result<()> {
 
 fn answer(alloc: Global, word: &str, text: &str) -> Result<String, AllocError> {
     match word {
+        "tokens" => tokens(alloc, &unescaped(alloc, text)?),
+        "reserved" => reserved(alloc, &unescaped(alloc, text)?),
         "script" => shown(alloc, behind_directive(alloc, text)?, false),
         "places" => shown(alloc, behind_directive(alloc, text)?, true),
         "file" => shown(alloc, unescaped(alloc, text)?, false),

@@ -1,52 +1,14 @@
-//! Shows the tokens of scripts. Each line of standard input is a word, a blank and a text with the
-//! escapes `\n`, `\xHH` and `\\`:
-//!
-//! - `tokens`: standard output takes the tokens of the text with a blank behind each: words and
-//!   numbers as they are, texts in quotation marks, signs by their names, the end as a full stop; or
-//!   `LINE:COLUMN`, both from 0, where no token begins;
-//! - `reserved`: `true` where the text is a reserved word, else `false`.
-#![tactic(auto)]
+//! Tokens as lines of text.
 
-mod escapes;
-
-use crate::escapes::unescaped;
 use es5_lexer::es_lex;
 use es5_tree::{EsStop, EsTokenKind, is_reserved};
 use opal_base::Units;
 use std::alloc::{AllocError, Global};
-use std::io::{self, Write};
 
 const MOST_BYTES: usize = 1_000;
 
-fn main(rt: HostRuntime) -> io::Result<()> {
-    let alloc = rt.alloc();
-    let input = io::read_to_string(alloc, rt.stdin())?;
-    let mut out = rt.stdout();
-    for row in input.as_str().split("\n") {
-        let (word, text) = match row.split_once(" ") {
-            Some((word, text)) => (word, text),
-            None => (row, ""),
-        };
-        if !word.is_empty() {
-            let line = answer(alloc, word, text)?;
-            out.write_all(line.as_bytes())?;
-            out.write_all(b"\n")?;
-        }
-    }
-    Ok(())
-}
-
-fn answer(alloc: Global, word: &str, text: &str) -> Result<String, AllocError> {
-    let bytes = unescaped(alloc, text)?;
-    match word {
-        "tokens" => tokens(alloc, &bytes),
-        "reserved" => reserved(alloc, &bytes),
-        _ => String::from_str(alloc, "no such word"),
-    }
-}
-
 /// The tokens with a blank behind each, or the place where none begins.
-fn tokens(alloc: Global, bytes: &[u8]) -> Result<String, AllocError> {
+pub fn tokens(alloc: Global, bytes: &[u8]) -> Result<String, AllocError> {
     if MOST_BYTES < bytes.len() {
         return String::from_str(alloc, "too long");
     }
@@ -103,7 +65,7 @@ fn push_units(alloc: Global, shown: &mut String, units: &[u16]) -> Result<(), Al
 }
 
 /// Whether the text is a reserved word.
-fn reserved(alloc: Global, bytes: &[u8]) -> Result<String, AllocError> {
+pub fn reserved(alloc: Global, bytes: &[u8]) -> Result<String, AllocError> {
     let mut name = Units::new(alloc);
     for byte in bytes {
         if name.push(u16::from(*byte)).is_err() {
