@@ -11,8 +11,6 @@ mod place;
 mod sink;
 mod source;
 mod system;
-#[cfg(test)]
-mod tests;
 mod units;
 mod utf8;
 

@@ -20,6 +20,3 @@ pub use call::opal;
 pub use laws::{agreement, one_answer};
 pub use status::Status;
 pub use words::{Budget, Command, read_words};
-
-#[cfg(test)]
-mod tests;

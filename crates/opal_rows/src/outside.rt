@@ -1,4 +1,10 @@
-use super::*;
+//! Texts, places, and the objects of the outside.
+
+use opal_base::{
+    Bytes, DecodeFault, Failed, FileFault, Files, MemFiles, MemSink, MemSource, Names, NullSink,
+    Pos, Sink, Source, SourceFault, StdSink, StdSource, SureFiles, SureSource, Units, line_col,
+    read_all, units_to_utf8, utf8_to_units, write_all,
+};
 use std::alloc::Global;
 use std::io;
 use std::process::Abort;

@@ -1,9 +1,7 @@
-use crate::call::opal;
-use crate::input::{InputFault, read_input};
-use crate::script::{ScriptFault, script_of};
-use crate::status::Status;
-use crate::words::{Command, read_words};
-use opal_base::{MemFiles, MemSink, MemSource, Pos, SureSource};
+//! Calls of the program over objects in memory.
+
+use opal_base::{MemFiles, MemSink, MemSource};
+use opal_cli::{Command, Status, opal, read_words};
 use std::test::Fail;
 
 const USAGE: &[u8] =
@@ -716,11 +714,18 @@ fn input_and_out_fail_in_a_run(rt: HostRuntime) -> Result<(), Fail> {
 fn scripts_and_inputs_of_one_byte_more_than_the_longest(rt: HostRuntime) -> Result<(), Fail> {
     let alloc = rt.alloc();
     let script = vec![in alloc; b' '; 67_108_865]?;
-    let fault = script_of(alloc, &script).err();
-    let pos = Pos { line: 0, col: 0 };
-    assert!(rt; matches!(fault, Some(ScriptFault::NotScript { pos: at }) if at == pos));
+    let (status, out, err) = Call::of(&["run", "x.js"], &script).ran(&rt)?;
+    assert_eq!(rt; status, Status::NotScript);
+    assert!(rt; out.is_empty());
+    assert_eq!(rt; err.as_slice(), b"x.js:1:1: not a script\n".as_slice());
     let input = vec![in alloc; b'a'; 16_777_217]?;
-    let fault = read_input(alloc, &mut SureSource::new(alloc, input)).err();
-    assert!(rt; matches!(fault, Some(InputFault::BadInput { offset: 16_777_216 })));
+    let call = Call {
+        input: &input,
+        ..Call::of(&["run", "x.js"], b"'use strict';")
+    };
+    let (status, out, err) = call.ran(&rt)?;
+    assert_eq!(rt; status, Status::BadInput);
+    assert!(rt; out.is_empty());
+    assert_eq!(rt; err.as_slice(), b"bad input at 16777216\n".as_slice());
     Ok(())
 }
