@@ -152,18 +152,11 @@ impl Pending {
         ensures later { S.faults sink.old ≤ S.faults sink.new }
         ensures cause { IfErr result (λ h. HaltCaused h (S.faults sink.old) (S.faults sink.new)) }
     {
-        let limit = store.limit;
         match act(alloc, table, store, &self.scope, what, sink) {
-            Ok(effect) => {
-                // No act changes the limit; the test says so to the proof.
-                if store.limit != limit {
-                    return Err(Halt::NoMemory);
-                }
-                match self.go_on(table, effect) {
-                    Ok(next) => Ok(next),
-                    Err(_) => Err(Halt::NoMemory),
-                }
-            }
+            Ok(effect) => match self.go_on(table, effect) {
+                Ok(next) => Ok(next),
+                Err(_) => Err(Halt::NoMemory),
+            },
             Err(halt) => Err(halt),
         }
     }
