@@ -111,7 +111,7 @@ impl Pending {
         Ok(sequence(table, body, 0))
     }
 
-    #[tactic(auto, using(crate::proofs::TaskLaws::done_then, crate::proofs::TaskLaws::leaves_then))]
+    #[tactic(auto, using(es5_evaluation::proofs::Tasks::done_then, es5_evaluation::proofs::Tasks::leaves_then))]
     // What is left to do of an effect.
     fn go_on(&mut self, table: &NodeTable, effect: Effect) -> Result<Next, NoMemory>
         ensures { IfOk result (λ n. behind table.now.nodes (scope_of self.old.scope) effect self.old.stack ≡ next_task table.now.nodes (scope_of self.new.scope) self.new.stack n) }
