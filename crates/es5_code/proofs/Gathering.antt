@@ -3,14 +3,15 @@ use Rattle.std.proofs.Common.{◌≡◌, ℕ, ℤ, ◌+◌, ◌<◌, ◌≤◌, 
 use Rattle.std.specs.Option.{option_map}
 use Rattle.std.proofs.lemmas.List.{drop_all, drop_more}
 use Rattle.opal_base.specs.declared.place.Pos.{Pos}
-use Rattle.es5_tree.specs.declared.tree.Catch.{Catch, Catch-F, out-Catch, roll-Catch, roll-out-Catch, map-Catch, fold-roll-Catch}
-use Rattle.es5_tree.specs.declared.tree.EsExpr.{EsExpr, fold-roll-EsExpr}
-use Rattle.es5_tree.specs.declared.tree.EsKind.{EsKind, EsKind-F, roll-EsKind, map-EsKind, fold-roll-EsKind}
+use Rattle.es5_tree.specs.declared.tree.Catch.{Catch}
+use Rattle.es5_tree.specs.declared.tree.EsExpr.{EsExpr}
+use Rattle.es5_tree.specs.declared.tree.EsKind.{EsKind}
 use Rattle.es5_tree.specs.declared.tree.EsKind.TheVariants as kind
-use Rattle.es5_tree.specs.declared.tree.EsStmt.{EsStmt, EsStmt-F, roll-EsStmt, map-EsStmt, fold-roll-EsStmt}
+use Rattle.es5_tree.specs.declared.tree.EsStmt.{EsStmt}
 use Rattle.es5_tree.specs.declared.tree.EsStmt.TheVariants as stmt
 use Rattle.es5_tree.specs.declared.tree.Operator.{Operator}
-use Rattle.es5_evaluation.specs.Declared.{OwnCode, arguments_name, both, catch_code, each, expr_code, kind_code, nothing, of_catch, of_kind, of_stmt, optional, optional_list, own_code, stmt_code}
+use Rattle.es5_evaluation.specs.Declared.{OwnCode, arguments_name, both, catch_code, each, expr_code, kind_code, nothing, optional, optional_list, own_code, stmt_code}
+use Rattle.es5_evaluation.proofs.Own as form
 use Rattle.es5_code.specs.declared.own.OwnNames.{OwnNames}
 use Rattle.es5_code.specs.Own.{gather}
 
@@ -37,102 +38,80 @@ gather_both a x y = ap₂ own_names (sym (append_assoc a.names x.names y.names))
 
 -- ---- layers
 
-expr_layer : (e : EsExpr) → expr_code e ≡ kind_code e.kind
-unfolding expr_code kind_code
-expr_layer e = fold-roll-EsExpr OwnCode OwnCode OwnCode OwnCode of_kind of_stmt of_catch (λ e. e.kind) (record { kind = e.kind; origin = e.origin; pos = e.pos })
-
-kind_layer : (l : EsKind-F EsKind EsStmt Catch EsExpr) → kind_code (roll-EsKind l) ≡ of_kind (map-EsKind EsKind EsStmt Catch EsExpr OwnCode OwnCode OwnCode OwnCode kind_code stmt_code catch_code expr_code l)
-unfolding expr_code kind_code stmt_code catch_code
-kind_layer l = fold-roll-EsKind OwnCode OwnCode OwnCode OwnCode of_kind of_stmt of_catch (λ e. e.kind) l
-
-stmt_layer : (l : EsStmt-F EsKind EsStmt Catch EsExpr) → stmt_code (roll-EsStmt l) ≡ of_stmt (map-EsStmt EsKind EsStmt Catch EsExpr OwnCode OwnCode OwnCode OwnCode kind_code stmt_code catch_code expr_code l)
-unfolding expr_code kind_code stmt_code catch_code
-stmt_layer l = fold-roll-EsStmt OwnCode OwnCode OwnCode OwnCode of_kind of_stmt of_catch (λ e. e.kind) l
-
-catch_layer : (l : Catch-F EsKind EsStmt Catch EsExpr) → catch_code (roll-Catch l) ≡ of_catch (map-Catch EsKind EsStmt Catch EsExpr OwnCode OwnCode OwnCode OwnCode kind_code stmt_code catch_code expr_code l)
-unfolding expr_code kind_code stmt_code catch_code
-catch_layer l = fold-roll-Catch OwnCode OwnCode OwnCode OwnCode of_kind of_stmt of_catch (λ e. e.kind) l
-
 pub expr_is : (a : OwnNames) (e : EsExpr) → gather a (expr_code e) ≡ gather a (kind_code e.kind)
-expr_is a e = ap (gather a) (expr_layer e)
+expr_is a e = ap (gather a) (form.expr_to e)
 
 pub catch_is : (a : OwnNames) (c : Catch) → gather a (catch_code c) ≡ gather a (each (map stmt_code c.body))
-catch_is a c = ap (gather a) (ap catch_code (sym (roll-out-Catch c)) ∙ catch_layer (out-Catch c))
-
-kind_to : (k : EsKind) (l : EsKind-F EsKind EsStmt Catch EsExpr) → roll-EsKind l ≡ k → kind_code k ≡ of_kind (map-EsKind EsKind EsStmt Catch EsExpr OwnCode OwnCode OwnCode OwnCode kind_code stmt_code catch_code expr_code l)
-kind_to k l e = ap kind_code (sym e) ∙ kind_layer l
-
-stmt_to : (k : EsStmt) (l : EsStmt-F EsKind EsStmt Catch EsExpr) → roll-EsStmt l ≡ k → stmt_code k ≡ of_stmt (map-EsStmt EsKind EsStmt Catch EsExpr OwnCode OwnCode OwnCode OwnCode kind_code stmt_code catch_code expr_code l)
-stmt_to k l e = ap stmt_code (sym e) ∙ stmt_layer l
+catch_is a c = ap (gather a) (form.catch_to c)
 
 -- ---- expressions
 
 pub of_num : (a : OwnNames) (v : ℤ) → gather a (kind_code (kind.Num v)) ≡ a
-of_num a v = ap (gather a) (kind_to _ (EsKind-F.Num v) (kind.rolls-Num v)) ∙ gather_nothing a
+of_num a v = ap (gather a) (form.of_num v) ∙ gather_nothing a
 
 pub of_str : (a : OwnNames) (u : List ℕ) → gather a (kind_code (kind.Str u)) ≡ a
-of_str a u = ap (gather a) (kind_to _ (EsKind-F.Str u) (kind.rolls-Str u)) ∙ gather_nothing a
+of_str a u = ap (gather a) (form.of_str u) ∙ gather_nothing a
 
 pub of_true_ : (a : OwnNames) → gather a (kind_code kind.True) ≡ a
-of_true_ a = ap (gather a) (kind_to _ EsKind-F.True kind.rolls-True) ∙ gather_nothing a
+of_true_ a = ap (gather a) form.of_true_ ∙ gather_nothing a
 
 pub of_false_ : (a : OwnNames) → gather a (kind_code kind.False) ≡ a
-of_false_ a = ap (gather a) (kind_to _ EsKind-F.False kind.rolls-False) ∙ gather_nothing a
+of_false_ a = ap (gather a) form.of_false_ ∙ gather_nothing a
 
 pub of_null : (a : OwnNames) → gather a (kind_code kind.Null) ≡ a
-of_null a = ap (gather a) (kind_to _ EsKind-F.Null kind.rolls-Null) ∙ gather_nothing a
+of_null a = ap (gather a) form.of_null ∙ gather_nothing a
 
 pub of_this : (a : OwnNames) → gather a (kind_code kind.This) ≡ a
-of_this a = ap (gather a) (kind_to _ EsKind-F.This kind.rolls-This) ∙ gather_nothing a
+of_this a = ap (gather a) form.of_this ∙ gather_nothing a
 
 pub of_name : (a : OwnNames) (u : List ℕ) → gather a (kind_code (kind.Name u)) ≡ own_names a.names (a.arguments || bytes_eq u arguments_name)
 unfolding gather
-of_name a u = ap (gather a) (kind_to _ (EsKind-F.Name u) (kind.rolls-Name u)) ∙ ap (λ ns. own_names ns (a.arguments || bytes_eq u arguments_name)) (append-nil a.names)
+of_name a u = ap (gather a) (form.of_name u) ∙ ap (λ ns. own_names ns (a.arguments || bytes_eq u arguments_name)) (append-nil a.names)
 
 pub of_array : (a : OwnNames) (es : List EsExpr) → gather a (kind_code (kind.Array es)) ≡ gather a (each (map expr_code es))
-of_array a es = ap (gather a) (kind_to _ (EsKind-F.Array es) (kind.rolls-Array es))
+of_array a es = ap (gather a) (form.of_array es)
 
 pub of_object : (a : OwnNames) (ks : List (List ℕ)) (es : List EsExpr) → gather a (kind_code (kind.Object ks es)) ≡ gather a (each (map expr_code es))
-of_object a ks es = ap (gather a) (kind_to _ (EsKind-F.Object ks es) (kind.rolls-Object ks es))
+of_object a ks es = ap (gather a) (form.of_object ks es)
 
 pub of_function : (a : OwnNames) (n : Option (List ℕ)) (ps : List (List ℕ)) (b : List EsStmt) → gather a (kind_code (kind.Function n ps b)) ≡ a
-of_function a n ps b = ap (gather a) (kind_to _ (EsKind-F.Function n ps b) (kind.rolls-Function n ps b)) ∙ gather_nothing a
+of_function a n ps b = ap (gather a) (form.of_function n ps b) ∙ gather_nothing a
 
 pub of_member : (a : OwnNames) (e : EsExpr) (u : List ℕ) (m : Pos) → gather a (kind_code (kind.Member e u m)) ≡ gather a (expr_code e)
-of_member a e u m = ap (gather a) (kind_to _ (EsKind-F.Member e u m) (kind.rolls-Member e u m))
+of_member a e u m = ap (gather a) (form.of_member e u m)
 
 pub of_index : (a : OwnNames) (l r : EsExpr) (m : Pos) → gather a (kind_code (kind.Index l r m)) ≡ gather (gather a (expr_code l)) (expr_code r)
-of_index a l r m = ap (gather a) (kind_to _ (EsKind-F.Index l r m) (kind.rolls-Index l r m)) ∙ gather_both a (expr_code l) (expr_code r)
+of_index a l r m = ap (gather a) (form.of_index l r m) ∙ gather_both a (expr_code l) (expr_code r)
 
 pub of_call : (a : OwnNames) (e : EsExpr) (es : List EsExpr) → gather a (kind_code (kind.Call e es)) ≡ gather (gather a (expr_code e)) (each (map expr_code es))
-of_call a e es = ap (gather a) (kind_to _ (EsKind-F.Call e es) (kind.rolls-Call e es)) ∙ gather_both a (expr_code e) (each (map expr_code es))
+of_call a e es = ap (gather a) (form.of_call e es) ∙ gather_both a (expr_code e) (each (map expr_code es))
 
 pub of_not_ : (a : OwnNames) (e : EsExpr) → gather a (kind_code (kind.Not e)) ≡ gather a (expr_code e)
-of_not_ a e = ap (gather a) (kind_to _ (EsKind-F.Not e) (kind.rolls-Not e))
+of_not_ a e = ap (gather a) (form.of_not_ e)
 
 pub of_neg : (a : OwnNames) (e : EsExpr) → gather a (kind_code (kind.Neg e)) ≡ gather a (expr_code e)
-of_neg a e = ap (gather a) (kind_to _ (EsKind-F.Neg e) (kind.rolls-Neg e))
+of_neg a e = ap (gather a) (form.of_neg e)
 
 pub of_typeof : (a : OwnNames) (e : EsExpr) → gather a (kind_code (kind.Typeof e)) ≡ gather a (expr_code e)
-of_typeof a e = ap (gather a) (kind_to _ (EsKind-F.Typeof e) (kind.rolls-Typeof e))
+of_typeof a e = ap (gather a) (form.of_typeof e)
 
 pub of_delete : (a : OwnNames) (e : EsExpr) → gather a (kind_code (kind.Delete e)) ≡ gather a (expr_code e)
-of_delete a e = ap (gather a) (kind_to _ (EsKind-F.Delete e) (kind.rolls-Delete e))
+of_delete a e = ap (gather a) (form.of_delete e)
 
 pub of_binary : (a : OwnNames) (o : Operator) (l r : EsExpr) → gather a (kind_code (kind.Binary o l r)) ≡ gather (gather a (expr_code l)) (expr_code r)
-of_binary a o l r = ap (gather a) (kind_to _ (EsKind-F.Binary o l r) (kind.rolls-Binary o l r)) ∙ gather_both a (expr_code l) (expr_code r)
+of_binary a o l r = ap (gather a) (form.of_binary o l r) ∙ gather_both a (expr_code l) (expr_code r)
 
 pub of_and_ : (a : OwnNames) (l r : EsExpr) → gather a (kind_code (kind.And l r)) ≡ gather (gather a (expr_code l)) (expr_code r)
-of_and_ a l r = ap (gather a) (kind_to _ (EsKind-F.And l r) (kind.rolls-And l r)) ∙ gather_both a (expr_code l) (expr_code r)
+of_and_ a l r = ap (gather a) (form.of_and l r) ∙ gather_both a (expr_code l) (expr_code r)
 
 pub of_or_ : (a : OwnNames) (l r : EsExpr) → gather a (kind_code (kind.Or l r)) ≡ gather (gather a (expr_code l)) (expr_code r)
-of_or_ a l r = ap (gather a) (kind_to _ (EsKind-F.Or l r) (kind.rolls-Or l r)) ∙ gather_both a (expr_code l) (expr_code r)
+of_or_ a l r = ap (gather a) (form.of_or l r) ∙ gather_both a (expr_code l) (expr_code r)
 
 pub of_cond : (a : OwnNames) (t l r : EsExpr) → gather a (kind_code (kind.Cond t l r)) ≡ gather (gather (gather a (expr_code t)) (expr_code l)) (expr_code r)
-of_cond a t l r = ap (gather a) (kind_to _ (EsKind-F.Cond t l r) (kind.rolls-Cond t l r)) ∙ gather_both a (expr_code t) (both (expr_code l) (expr_code r)) ∙ gather_both (gather a (expr_code t)) (expr_code l) (expr_code r)
+of_cond a t l r = ap (gather a) (form.of_cond t l r) ∙ gather_both a (expr_code t) (both (expr_code l) (expr_code r)) ∙ gather_both (gather a (expr_code t)) (expr_code l) (expr_code r)
 
 pub of_assign : (a : OwnNames) (l r : EsExpr) → gather a (kind_code (kind.Assign l r)) ≡ gather (gather a (expr_code l)) (expr_code r)
-of_assign a l r = ap (gather a) (kind_to _ (EsKind-F.Assign l r) (kind.rolls-Assign l r)) ∙ gather_both a (expr_code l) (expr_code r)
+of_assign a l r = ap (gather a) (form.of_assign l r) ∙ gather_both a (expr_code l) (expr_code r)
 
 -- ---- statements
 
@@ -140,46 +119,46 @@ abbrev declared : List ℕ → OwnCode
 declared u = record { names = u ∷ []; arguments = false }
 
 pub of_var : (a : OwnNames) (u : List ℕ) (v : Option EsExpr) → gather a (stmt_code (stmt.Var u v)) ≡ gather (gather a (declared u)) (optional (option_map expr_code v))
-of_var a u None = ap (gather a) (stmt_to _ (EsStmt-F.Var u None) (stmt.rolls-Var u None)) ∙ gather_both a (declared u) nothing
-of_var a u (Some v) = ap (gather a) (stmt_to _ (EsStmt-F.Var u (Some v)) (stmt.rolls-Var u (Some v))) ∙ gather_both a (declared u) (expr_code v)
+of_var a u None = ap (gather a) (form.of_var u None) ∙ gather_both a (declared u) nothing
+of_var a u (Some v) = ap (gather a) (form.of_var u (Some v)) ∙ gather_both a (declared u) (expr_code v)
 
 pub of_expr : (a : OwnNames) (e : EsExpr) → gather a (stmt_code (stmt.Expr e)) ≡ gather a (expr_code e)
-of_expr a e = ap (gather a) (stmt_to _ (EsStmt-F.Expr e) (stmt.rolls-Expr e))
+of_expr a e = ap (gather a) (form.of_expr e)
 
 pub of_block : (a : OwnNames) (b : List EsStmt) → gather a (stmt_code (stmt.Block b)) ≡ gather a (each (map stmt_code b))
-of_block a b = ap (gather a) (stmt_to _ (EsStmt-F.Block b) (stmt.rolls-Block b))
+of_block a b = ap (gather a) (form.of_block b)
 
 pub of_if : (a : OwnNames) (t : EsExpr) (x : EsStmt) (y : Option EsStmt) → gather a (stmt_code (stmt.If t x y)) ≡ gather (gather (gather a (expr_code t)) (stmt_code x)) (optional (option_map stmt_code y))
-of_if a t x None = ap (gather a) (stmt_to _ (EsStmt-F.If t x None) (stmt.rolls-If t x None)) ∙ gather_both a (expr_code t) (both (stmt_code x) nothing) ∙ gather_both (gather a (expr_code t)) (stmt_code x) nothing
-of_if a t x (Some y) = ap (gather a) (stmt_to _ (EsStmt-F.If t x (Some y)) (stmt.rolls-If t x (Some y))) ∙ gather_both a (expr_code t) (both (stmt_code x) (stmt_code y)) ∙ gather_both (gather a (expr_code t)) (stmt_code x) (stmt_code y)
+of_if a t x None = ap (gather a) (form.of_if t x None) ∙ gather_both a (expr_code t) (both (stmt_code x) nothing) ∙ gather_both (gather a (expr_code t)) (stmt_code x) nothing
+of_if a t x (Some y) = ap (gather a) (form.of_if t x (Some y)) ∙ gather_both a (expr_code t) (both (stmt_code x) (stmt_code y)) ∙ gather_both (gather a (expr_code t)) (stmt_code x) (stmt_code y)
 
 pub of_while : (a : OwnNames) (t : EsExpr) (x : EsStmt) → gather a (stmt_code (stmt.While t x)) ≡ gather (gather a (expr_code t)) (stmt_code x)
-of_while a t x = ap (gather a) (stmt_to _ (EsStmt-F.While t x) (stmt.rolls-While t x)) ∙ gather_both a (expr_code t) (stmt_code x)
+of_while a t x = ap (gather a) (form.of_while t x) ∙ gather_both a (expr_code t) (stmt_code x)
 
 pub of_return : (a : OwnNames) (v : Option EsExpr) → gather a (stmt_code (stmt.Return v)) ≡ gather a (optional (option_map expr_code v))
-of_return a None = ap (gather a) (stmt_to _ (EsStmt-F.Return None) (stmt.rolls-Return None))
-of_return a (Some v) = ap (gather a) (stmt_to _ (EsStmt-F.Return (Some v)) (stmt.rolls-Return (Some v)))
+of_return a None = ap (gather a) (form.of_return None)
+of_return a (Some v) = ap (gather a) (form.of_return (Some v))
 
 pub of_break : (a : OwnNames) → gather a (stmt_code stmt.Break) ≡ a
-of_break a = ap (gather a) (stmt_to _ EsStmt-F.Break stmt.rolls-Break) ∙ gather_nothing a
+of_break a = ap (gather a) form.of_break ∙ gather_nothing a
 
 pub of_continue : (a : OwnNames) → gather a (stmt_code stmt.Continue) ≡ a
-of_continue a = ap (gather a) (stmt_to _ EsStmt-F.Continue stmt.rolls-Continue) ∙ gather_nothing a
+of_continue a = ap (gather a) form.of_continue ∙ gather_nothing a
 
 pub of_throw : (a : OwnNames) (e : EsExpr) → gather a (stmt_code (stmt.Throw e)) ≡ gather a (expr_code e)
-of_throw a e = ap (gather a) (stmt_to _ (EsStmt-F.Throw e) (stmt.rolls-Throw e))
+of_throw a e = ap (gather a) (form.of_throw e)
 
 pub of_empty : (a : OwnNames) → gather a (stmt_code stmt.Empty) ≡ a
-of_empty a = ap (gather a) (stmt_to _ EsStmt-F.Empty stmt.rolls-Empty) ∙ gather_nothing a
+of_empty a = ap (gather a) form.of_empty ∙ gather_nothing a
 
 try_parts : (a : OwnNames) (x y z : OwnCode) → gather a (both x (both y z)) ≡ gather (gather (gather a x) y) z
 try_parts a x y z = gather_both a x (both y z) ∙ gather_both (gather a x) y z
 
 pub of_try : (a : OwnNames) (b : List EsStmt) (c : Option Catch) (l : Option (List EsStmt)) → gather a (stmt_code (stmt.Try b c l)) ≡ gather (gather (gather a (each (map stmt_code b))) (optional (option_map catch_code c))) (optional_list (option_map (map stmt_code) l))
-of_try a b None None = ap (gather a) (stmt_to _ (EsStmt-F.Try b None None) (stmt.rolls-Try b None None)) ∙ try_parts a (each (map stmt_code b)) nothing nothing
-of_try a b None (Some l) = ap (gather a) (stmt_to _ (EsStmt-F.Try b None (Some l)) (stmt.rolls-Try b None (Some l))) ∙ try_parts a (each (map stmt_code b)) nothing (each (map stmt_code l))
-of_try a b (Some c) None = ap (gather a) (stmt_to _ (EsStmt-F.Try b (Some c) None) (stmt.rolls-Try b (Some c) None)) ∙ try_parts a (each (map stmt_code b)) (catch_code c) nothing
-of_try a b (Some c) (Some l) = ap (gather a) (stmt_to _ (EsStmt-F.Try b (Some c) (Some l)) (stmt.rolls-Try b (Some c) (Some l))) ∙ try_parts a (each (map stmt_code b)) (catch_code c) (each (map stmt_code l))
+of_try a b None None = ap (gather a) (form.of_try b None None) ∙ try_parts a (each (map stmt_code b)) nothing nothing
+of_try a b None (Some l) = ap (gather a) (form.of_try b None (Some l)) ∙ try_parts a (each (map stmt_code b)) nothing (each (map stmt_code l))
+of_try a b (Some c) None = ap (gather a) (form.of_try b (Some c) None) ∙ try_parts a (each (map stmt_code b)) (catch_code c) nothing
+of_try a b (Some c) (Some l) = ap (gather a) (form.of_try b (Some c) (Some l)) ∙ try_parts a (each (map stmt_code b)) (catch_code c) (each (map stmt_code l))
 
 -- ---- lists
 

@@ -6,8 +6,6 @@ mod node;
 mod numbering;
 mod own;
 mod table;
-#[cfg(test)]
-mod tests;
 
 pub use node::{CatchForm, ExprForm, ExprNode, FunctionForm, Node, NodeId, StmtForm};
 pub use numbering::number;

@@ -19,7 +19,7 @@ pub outcome_more : (script : Script) (input : Text) (n k : ℕ) → GoesOn k (ou
 unfolding outcome
 outcome_more script input n k = run_more k n (all script.body script_scope) (first_state script input)
 
-more_outcome : (k : ℕ) (o later : Outcome) (output : List ℕ) (end : EsEnd) → GoesOn k o later → shown_by o ≡ Ended output end → shown_by later ≡ Ended output end
+pub more_outcome : (k : ℕ) (o later : Outcome) (output : List ℕ) (end : EsEnd) → GoesOn k o later → shown_by o ≡ Ended output end → shown_by later ≡ Ended output end
 more_outcome k (task.Ended c s g) later output end h e = ap shown_by h ∙ e
 more_outcome k (Left kind p s) later output end h e = ap shown_by h ∙ e
 more_outcome k (Going s) later output end h e = cc
@@ -42,12 +42,12 @@ one_end_is script input n m output other end last e f =
 
 -- ---- output
 
-shows_own : (o : Outcome) → Shows (shown_by o) (output_of (state_of o).calls)
+pub shows_own : (o : Outcome) → Shows (shown_by o) (output_of (state_of o).calls)
 shows_own (task.Ended c s g) = inr (end_of c s.heap, refl)
 shows_own (Left kind p s) = inr (Outside kind p, refl)
 shows_own (Going s) = inl refl
 
-shows_no_other : (o : Outcome) (output : List ℕ) → Shows (shown_by o) output → output_of (state_of o).calls ≡ output
+pub shows_no_other : (o : Outcome) (output : List ℕ) → Shows (shown_by o) output → output_of (state_of o).calls ≡ output
 shows_no_other (task.Ended c s g) output (inl e) = cc
 shows_no_other (task.Ended c s g) output (inr (end, e)) = cc
 shows_no_other (Left kind p s) output (inl e) = cc

@@ -4,7 +4,9 @@ use Rattle.opal_base.specs.Shown.{Ended, Shows}
 use Rattle.es5_tree.specs.declared.tree.Script.{Script}
 use Rattle.es5_tree.specs.Values.{Text}
 use Rattle.es5_tree.specs.Ends.{EsEnd}
-use Rattle.es5_evaluation.specs.Run.{es_run, cells_at}
+use Rattle.es5_evaluation.specs.State.{State}
+use Rattle.es5_evaluation.specs.Task.{Completion, Task, ◌>>=◌}
+use Rattle.es5_evaluation.specs.Run.{es_run, cells_at, run, behind, run_on}
 
 -- once a run has ended, more units change nothing
 abbrev pub MoreUnits : Type 0
@@ -21,3 +23,7 @@ OutputGrows = (script : Script) (input : Text) (n k : ℕ) (output : List ℕ) �
 -- with more units no fewer cells are made
 abbrev pub CellsGrow : Type 0
 CellsGrow = (script : Script) (input : Text) (n k : ℕ) → cells_at script input n ≤ cells_at script input (n + k)
+
+-- a run of one task after another is a run of the first, and then of the second with the units that are left
+abbrev pub TasksInTurn : Type 0
+TasksInTurn = (g : ℕ) (t : Task) (k : Completion → Task) (s : State) → run g (t >>= k) s ≡ behind (run g t s) (run_on k)

@@ -22,6 +22,16 @@ ask (suc g) q k s = walk (ask g) g (perform q >>= k) s
 unfoldable pub run : ℕ → Task → State → Outcome
 run g t s = walk (ask g) g t s
 
+-- what comes behind a completion; the other outcomes stand
+abbrev pub behind : Outcome → (Completion → State → ℕ → Outcome) → Outcome
+behind (Ended c s g) k = k c s g
+behind (Left kind p s) k = Left kind p s
+behind (Going s) k = Going s
+
+-- a task goes on with a completion, a state and the units that are left
+abbrev pub run_on : (Completion → Task) → Completion → State → ℕ → Outcome
+run_on k c s g = run g (k c) s
+
 -- ---- scripts
 
 -- the globals can't be written, and the script's own variables stand in a record inside them

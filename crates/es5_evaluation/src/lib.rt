@@ -3,4 +3,4 @@
 
 mod laws;
 
-pub use laws::{cells_grow, runs};
+pub use laws::{cells_grow, runs, tasks_in_turn};

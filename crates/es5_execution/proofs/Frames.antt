@@ -4,6 +4,7 @@ use Rattle.opal_base.specs.declared.place.Pos.{Pos}
 use Rattle.es5_tree.specs.declared.tree.EsStmt.{EsStmt, out-EsStmt}
 use Rattle.es5_evaluation.specs.Task.{Completion, Scope, Request, Task, Done, Leaves, Ask, ◌>>=◌}
 use Rattle.es5_evaluation.specs.Evaluate.{all, left, eval_node, exec_node, layer, perform, refer_node}
+use Rattle.es5_evaluation.proofs.Tasks.{then_assoc}
 use Rattle.es5_code.specs.declared.node.Node.{Node}
 use Rattle.es5_host.specs.declared.answer.OutKind.{OutKind}
 use Rattle.es5_objects.specs.declared.value.EsValue.{EsValue}
@@ -21,7 +22,6 @@ use Rattle.es5_pending.specs.declared.frame.Frame.TheVariants as frame
 use Rattle.es5_pending.specs.declared.frame.ScopeFrame.TheVariants as scope
 use Rattle.es5_pending.specs.Meaning.{act_task, completion_of, request_of, resume, rest, scope_behind, scope_outside, task_of}
 use Rattle.es5_execution.specs.Progress.{acting, beginning, doing}
-use Rattle.es5_execution.proofs.TaskLaws.{bind_assoc}
 
 -- a frame of the same scope on top
 pub on_top : (T : List Node) (ρ : Scope) (f : Frame) (fs gs : List Frame) → gs ≡ f ∷ fs → scope_behind ρ f ≡ ρ → (λ c. resume T ρ f c >>= rest T ρ fs) ≡ rest T ρ gs
@@ -30,7 +30,7 @@ on_top T ρ f fs gs e h = λ i. (ap (λ σ. λ (c : Completion). resume T ρ f c
 
 -- a task whose end goes to that frame
 pub pushed : (T : List Node) (ρ : Scope) (t : Task) (f : Frame) (fs gs : List Frame) → gs ≡ f ∷ fs → scope_behind ρ f ≡ ρ → ((t >>= resume T ρ f) >>= rest T ρ fs) ≡ (t >>= rest T ρ gs)
-pushed T ρ t f fs gs e h = bind_assoc t (resume T ρ f) (rest T ρ fs) ∙ ap (λ k. t >>= k) (on_top T ρ f fs gs e h)
+pushed T ρ t f fs gs e h = then_assoc t (resume T ρ f) (rest T ρ fs) ∙ ap (λ k. t >>= k) (on_top T ρ f fs gs e h)
 
 -- a node that begins under that frame
 pub begun : (T : List Node) (ρ : Scope) (q : Request) (f : Frame) (fs gs : List Frame) → gs ≡ f ∷ fs → scope_behind ρ f ≡ ρ → (Ask q (resume T ρ f) >>= rest T ρ fs) ≡ Ask q (rest T ρ gs)
@@ -41,7 +41,7 @@ begun T ρ q f fs gs e h = ap (Ask q) (on_top T ρ f fs gs e h)
 pub body_entered : (T : List Node) (ρ σ : Scope) (xs : List EsStmt) (this : EsValue) (innermost : ℕ) (fs gs : List Frame) (t : Task) → gs ≡ frame.Scope (scope.Body this innermost) ∷ fs → scope_outside (scope.Body this innermost) ≡ ρ → t ≡ all xs σ → ((all xs σ >>= left) >>= rest T ρ fs) ≡ (t >>= rest T σ gs)
 unfolding rest resume
 body_entered T ρ σ xs this innermost fs gs t e h q =
-    bind_assoc (all xs σ) left (rest T ρ fs)
+    then_assoc (all xs σ) left (rest T ρ fs)
     ∙ (ap (λ τ. all xs σ >>= (λ c. left c >>= rest T τ fs)) (sym h)
     ∙ ap₂ (λ u hs. u >>= rest T σ hs) (sym q) (sym e))
 

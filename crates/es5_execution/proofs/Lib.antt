@@ -1,3 +1,2 @@
-pub mod TaskLaws
 pub mod Frames
 pub mod Moving

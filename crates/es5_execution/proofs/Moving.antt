@@ -1,5 +1,5 @@
 -- Moves from task to task.
-use Rattle.std.proofs.Common.{◌≡◌, ℕ, ◌+◌, ◌≤◌, List, [], ◌∷◌, ◌++◌, length, Option, Some, None, Result, Ok, Err, refl, sym, ap, ◌∙◌, subst, append_assoc, append-nil}
+use Rattle.std.proofs.Common.{◌≡◌, ℕ, ◌+◌, ◌≤◌, List, [], ◌++◌, length, Option, Result, Ok, Err, refl, sym, ap, ◌∙◌, subst, append_assoc, append-nil}
 use Rattle.opal_base.specs.Outside.{appended}
 use Rattle.opal_base.specs.Shown.{HostCall, output_of}
 use Rattle.opal_base.proofs.Outputs.{output_both}

@@ -35,6 +35,7 @@ fn message(fault: Fault) -> &'static [u8]
 fn object(store: &mut Store, table: &NodeTable, i: NodeId, values: EsValues) -> Result<Effect, Halt>
     requires sound { Sound store.old }
     ensures sound { OnOk result (Sound store.new) }
+    ensures limit { store.new.limit ≡ store.old.limit }
     ensures does { (ρ : task.Scope) → Quiet result table.now.nodes ρ (act_task table.now.nodes ρ (Act.MakeObject i values)) store.old store.new }
 {
     match table.expr(i) {
@@ -59,6 +60,7 @@ fn quiet(
 ) -> Result<Effect, Halt>
     requires sound { Sound store.old }
     ensures sound { OnOk result (Sound store.new) }
+    ensures limit { store.new.limit ≡ store.old.limit }
     ensures does { Quiet result table.now.nodes (scope_of scope.now) (act_task table.now.nodes (scope_of scope.now) act) store.old store.new }
 {
     match act {
@@ -106,6 +108,7 @@ pub fn act<S: Sink>(
 ) -> Result<Effect, Halt>
     requires sound { Sound store.old }
     ensures sound { OnOk result (Sound store.new) }
+    ensures limit { store.new.limit ≡ store.old.limit }
     ensures does { Acted result table.now.nodes (scope_of scope.now) (act_task table.now.nodes (scope_of scope.now) act) store.old store.new (S.told sink.old) (S.told sink.new) }
     ensures later { S.faults sink.old ≤ S.faults sink.new }
     ensures cause { IfErr result (λ h. HaltCaused h (S.faults sink.old) (S.faults sink.new)) }

@@ -111,7 +111,7 @@ impl Pending {
         Ok(sequence(table, body, 0))
     }
 
-    #[tactic(auto, using(crate::proofs::TaskLaws::done_then, crate::proofs::TaskLaws::leaves_then))]
+    #[tactic(auto, using(es5_evaluation::proofs::Tasks::done_then, es5_evaluation::proofs::Tasks::leaves_then))]
     // What is left to do of an effect.
     fn go_on(&mut self, table: &NodeTable, effect: Effect) -> Result<Next, NoMemory>
         ensures { IfOk result (λ n. behind table.now.nodes (scope_of self.old.scope) effect self.old.stack ≡ next_task table.now.nodes (scope_of self.new.scope) self.new.stack n) }
@@ -152,18 +152,11 @@ impl Pending {
         ensures later { S.faults sink.old ≤ S.faults sink.new }
         ensures cause { IfErr result (λ h. HaltCaused h (S.faults sink.old) (S.faults sink.new)) }
     {
-        let limit = store.limit;
         match act(alloc, table, store, &self.scope, what, sink) {
-            Ok(effect) => {
-                // No act changes the limit; the test says so to the proof.
-                if store.limit != limit {
-                    return Err(Halt::NoMemory);
-                }
-                match self.go_on(table, effect) {
-                    Ok(next) => Ok(next),
-                    Err(_) => Err(Halt::NoMemory),
-                }
-            }
+            Ok(effect) => match self.go_on(table, effect) {
+                Ok(next) => Ok(next),
+                Err(_) => Err(Halt::NoMemory),
+            },
             Err(halt) => Err(halt),
         }
     }

@@ -5,9 +5,8 @@ use Rattle.es5_tree.specs.declared.tree.EsStmt.{EsStmt}
 use Rattle.es5_tree.specs.Depth.{highest, script_depth, stmt_depth}
 use Rattle.es5_tree.specs.Depth as depth
 use Rattle.es5_tree.specs.Grammar.Spelling.{bare_stmt}
+use Rattle.es5_tree.proofs.Bare.{placeless, bare_same_body}
 use Rattle.es5_laws.specs.Laws.{SameDepth}
-use Rattle.es5_laws.proofs.Bare.{placeless}
-use Rattle.es5_laws.proofs.Folds.{bare_same_body}
 
 without_mark : (l : EsKind-F ℕ ℕ ℕ ℕ) → depth.of_kind (placeless l) ≡ depth.of_kind l
 without_mark (EsKind-F.Member base name mark) = refl

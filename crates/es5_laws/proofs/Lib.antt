@@ -1,6 +1,4 @@
 pub mod Writing
-pub mod Bare
-pub mod Folds
 pub mod Depths
 pub mod OwnCode
 pub mod SameTasks

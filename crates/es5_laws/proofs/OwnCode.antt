@@ -3,9 +3,8 @@ use Rattle.std.proofs.Common.{◌≡◌, List, map, refl, ap}
 use Rattle.es5_tree.specs.declared.tree.EsKind.{EsKind-F}
 use Rattle.es5_tree.specs.declared.tree.EsStmt.{EsStmt}
 use Rattle.es5_tree.specs.Grammar.Spelling.{bare_stmt}
+use Rattle.es5_tree.proofs.Bare.{placeless, bare_same_body}
 use Rattle.es5_evaluation.specs.Declared.{OwnCode, each, of_catch, of_kind, of_stmt, own_code, stmt_code}
-use Rattle.es5_laws.proofs.Bare.{placeless}
-use Rattle.es5_laws.proofs.Folds.{bare_same_body}
 
 without_mark : (l : EsKind-F OwnCode OwnCode OwnCode OwnCode) → of_kind (placeless l) ≡ of_kind l
 without_mark (EsKind-F.Member base name mark) = refl

@@ -8,10 +8,10 @@ use Rattle.es5_tree.specs.declared.tree.EsKind.{EsKind-F}
 use Rattle.es5_tree.specs.declared.tree.EsStmt.{EsStmt, EsStmt-F, out-EsStmt}
 use Rattle.es5_tree.specs.Values.{Val, Undefined}
 use Rattle.es5_tree.specs.Grammar.Spelling.{bare_stmt, no_place}
+use Rattle.es5_tree.proofs.Bare.{KindLayer, StmtLayer, placeless, bare_catch, bare_expr, bare_layer, bare_stmt_layer, bare_catch_is, expr_layer, out_bare, out_bare_stmt}
 use Rattle.es5_evaluation.specs.Task.{Place, Completion, Normal, Refers, Return, Throw, Break, Continue, Scope, Request, Evaluate, Refer, Execute, Turn, Task, Done, Ask}
 use Rattle.es5_evaluation.specs.Values.{truthy, negated, binary}
 use Rattle.es5_evaluation.specs.Evaluate.{ItsValue, ItsPlace, again, and_then, at_last, branch, call_place, call_with, caught_by, choose, eval_node, exec_node, gather, instead, layer, or_else, perform, refer_node, this_of, tried, turn, turned}
-use Rattle.es5_laws.proofs.Bare.{KindLayer, StmtLayer, placeless, bare_catch, bare_expr, bare_layer, bare_stmt_layer, bare_catch_is, expr_layer, out_bare, out_bare_stmt}
 use Rattle.es5_laws.proofs.SameTasks.{Alike, done, asks, enters, bare_request, alike_then, normally_alike, referred_alike}
 use Rattle.es5_laws.proofs.SameSteps.{raise_alike, operated_alike, read_name_alike, write_name_alike, read_place_alike, write_place_alike, access_alike, access_at_alike, make_array_alike, make_object_alike, make_function_alike, type_of_alike, type_of_place_alike, delete_place_alike}
 use Rattle.es5_laws.proofs.SameCalls.{all_alike, invoke_alike}

@@ -5,10 +5,10 @@ use Rattle.es5_tree.specs.Values.{Text, Val}
 use Rattle.es5_tree.specs.Ends.{OutKind}
 use Rattle.es5_tree.specs.Grammar.Spelling.{bare_stmt, no_place}
 use Rattle.es5_tree.specs.Objects.Cells.{Cell}
+use Rattle.es5_tree.proofs.Bare.{bare_expr}
 use Rattle.es5_evaluation.specs.State.{Code, Activation, State}
 use Rattle.es5_evaluation.specs.Task.{Place, Completion, Normal, Refers, Return, Throw, Break, Continue, Request, Evaluate, Refer, Execute, Turn, Task, Done, Leaves, Ask, Look, Set, Make, Keep, Enter, Store, Print, Read, ◌>>=◌}
 use Rattle.es5_evaluation.specs.Evaluate.{normally, referred}
-use Rattle.es5_laws.proofs.Bare.{bare_expr}
 
 -- ---- without sites and places
 

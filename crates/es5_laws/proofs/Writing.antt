@@ -24,9 +24,10 @@ use Rattle.es5_tree.specs.Intrinsics.Made as made
 use Rattle.es5_evaluation.specs.State.{State, record_at, binding, binding_by}
 use Rattle.es5_evaluation.specs.Task.{Completion, Normal, Task, Execute, Outcome, walk, ◌>>=◌}
 use Rattle.es5_evaluation.specs.Task as task
-use Rattle.es5_evaluation.specs.Declared.{OwnCode, both, catch_code, expr_code, kind_code, locals, new_names, nothing, of_catch, of_kind, of_stmt, own_code, stmt_code}
+use Rattle.es5_evaluation.specs.Declared.{both, expr_code, locals, new_names, nothing, own_code, stmt_code}
 use Rattle.es5_evaluation.specs.Evaluate.{all, normally, perform, exec_node, eval_node, refer_node, read_name, read_place, read_property, access, gather, invoke, row_task, undefined_variables}
 use Rattle.es5_evaluation.specs.Run.{ask, es_run, first_state, outcome, run, global_record, script_scope, shown_by}
+use Rattle.es5_evaluation.proofs.Own as own
 use Rattle.es5_laws.specs.Writes.{expr, write, writes}
 use Rattle.es5_laws.specs.Laws.{WritesInTurn, OneWriteTakesFive}
 
@@ -87,18 +88,6 @@ all_starve (text ∷ texts) input calls (suc j) r l h =
 
 -- ---- the script
 
-expr_to : (e : EsExpr) → expr_code e ≡ kind_code e.kind
-unfolding expr_code kind_code
-expr_to e = fold-roll-EsExpr OwnCode OwnCode OwnCode OwnCode of_kind of_stmt of_catch (λ e. e.kind) (record { kind = e.kind; origin = e.origin; pos = e.pos })
-
-kind_to : (k : EsKind) (l : EsKind-F EsKind EsStmt Catch EsExpr) → roll-EsKind l ≡ k → kind_code k ≡ of_kind (map-EsKind EsKind EsStmt Catch EsExpr OwnCode OwnCode OwnCode OwnCode kind_code stmt_code catch_code expr_code l)
-unfolding expr_code kind_code stmt_code catch_code
-kind_to k l e = ap kind_code (sym e) ∙ fold-roll-EsKind OwnCode OwnCode OwnCode OwnCode of_kind of_stmt of_catch (λ e. e.kind) l
-
-stmt_to : (t : EsStmt) (l : EsStmt-F EsKind EsStmt Catch EsExpr) → roll-EsStmt l ≡ t → stmt_code t ≡ of_stmt (map-EsStmt EsKind EsStmt Catch EsExpr OwnCode OwnCode OwnCode OwnCode kind_code stmt_code catch_code expr_code l)
-unfolding expr_code kind_code stmt_code catch_code
-stmt_to t l e = ap stmt_code (sym e) ∙ fold-roll-EsStmt OwnCode OwnCode OwnCode OwnCode of_kind of_stmt of_catch (λ e. e.kind) l
-
 -- such a statement declares nothing
 nothing_declared : (text : Text) → stmt_code (write text) ≡ nothing
 nothing_declared text =
@@ -106,11 +95,11 @@ nothing_declared text =
     let member = expr (kind.Member host (codes "write") start) in
     let args = expr (kind.Str text) ∷ [] in
     let call = expr (kind.Call member args) in
-    let of_host : expr_code host ≡ nothing = expr_to host ∙ kind_to _ (EsKind-F.Name (codes "$host")) (kind.rolls-Name (codes "$host")) in
-    let of_member : expr_code member ≡ nothing = expr_to member ∙ kind_to _ (EsKind-F.Member host (codes "write") start) (kind.rolls-Member host (codes "write") start) ∙ of_host in
-    let of_text : expr_code (expr (kind.Str text)) ≡ nothing = expr_to (expr (kind.Str text)) ∙ kind_to _ (EsKind-F.Str text) (kind.rolls-Str text) in
-    stmt_to _ (EsStmt-F.Expr call) (stmt.rolls-Expr call)
-    ∙ (expr_to call ∙ (kind_to _ (EsKind-F.Call member args) (kind.rolls-Call member args) ∙ (ap (λ a. both a (both (expr_code (expr (kind.Str text))) nothing)) of_member ∙ ap (λ a. both nothing (both a nothing)) of_text)))
+    let of_host : expr_code host ≡ nothing = own.expr_to host ∙ own.of_name (codes "$host") in
+    let of_member : expr_code member ≡ nothing = own.expr_to member ∙ own.of_member host (codes "write") start ∙ of_host in
+    let of_text : expr_code (expr (kind.Str text)) ≡ nothing = own.expr_to (expr (kind.Str text)) ∙ own.of_str text in
+    own.of_expr call
+    ∙ (own.expr_to call ∙ (own.of_call member args ∙ (ap (λ a. both a (both (expr_code (expr (kind.Str text))) nothing)) of_member ∙ ap (λ a. both nothing (both a nothing)) of_text)))
 
 no_names : (texts : List Text) → own_code (map write texts) ≡ nothing
 unfolding own_code

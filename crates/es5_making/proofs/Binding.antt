@@ -1,18 +1,17 @@
 -- The records of calls, name by name.
-use Rattle.std.proofs.Common.{◌≡◌, ℕ, zero, suc, ◌+◌, ◌<◌, ◌≤◌, Bool, true, false, List, [], ◌∷◌, ◌++◌, length, map, drop, get_or, slice_get, Option, None, Some, ⊎_elim, refl, sym, ap, ap₂, subst, ◌∙◌, arith, append_assoc, append-nil, drop_of_length-le, is_some}
-use Rattle.std.proofs.lemmas.List.{length-append, length-map}
+use Rattle.std.proofs.Common.{◌≡◌, ℕ, suc, ◌+◌, ◌<◌, ◌≤◌, Bool, true, false, List, [], ◌∷◌, ◌++◌, length, drop, get_or, slice_get, Option, None, Some, ⊎_elim, refl, sym, ap, ap₂, ◌∙◌, arith, append_assoc, append-nil, drop_of_length-le, is_some}
+use Rattle.std.proofs.lemmas.List.{length-append}
 use Rattle.std.proofs.lemmas.Option.{slice_get_past, slice_get-get_or}
 use Rattle.std.proofs.Math.Seq.{drop-append_seam}
 use Rattle.std.proofs.lemmas.Bool.{cases_lt}
 use Rattle.es5_tree.specs.Values.{Text, Val, Undefined, Obj}
-use Rattle.es5_evaluation.specs.State.{Activation, Code}
 use Rattle.es5_evaluation.specs.Values.{or_undefined}
 use Rattle.es5_evaluation.specs.Declared.{arguments_name, locals, own_code}
 use Rattle.es5_evaluation.specs.Evaluate.{activation, bound_params, own_name, undefined_variables}
 use Rattle.es5_code.specs.declared.node.Node.{Node}
 use Rattle.es5_code.specs.declared.node.FunctionForm.{FunctionForm}
 use Rattle.es5_code.specs.Sound.{Declares}
-use Rattle.es5_code.specs.Trees.{arguments_if, code_of, variables_of}
+use Rattle.es5_code.specs.Trees.{arguments_if, code_of}
 use Rattle.es5_store.specs.declared.store.Record.{Record}
 use Rattle.es5_store.specs.Store.{record_of}
 use Rattle.es5_making.specs.Calls.{argument_at, arguments_bound}

@@ -1,12 +1,12 @@
 -- Calls of the functions of a script, step by step.
-use Rattle.std.proofs.Common.{◌≡◌, ℕ, ◌<◌, Bool, true, false, List, [], ◌∷◌, ◌++◌, length, map, get_or, slice_get, Option, None, Some, Result, refl, sym, ap, subst, ◌∙◌}
+use Rattle.std.proofs.Common.{◌≡◌, ℕ, Bool, true, List, [], ◌∷◌, ◌++◌, length, map, slice_get, None, Some, Result, refl, sym, ap, subst, ◌∙◌}
 use Rattle.std.proofs.lemmas.List.{get_or-map}
 use Rattle.std.proofs.lemmas.Option.{get_or_from_slice_get, slice_get_within}
 use Rattle.es5_tree.specs.declared.tree.EsStmt.{EsStmt}
-use Rattle.es5_tree.specs.Values.{Val, Obj}
+use Rattle.es5_tree.specs.Values.{Val}
 use Rattle.es5_evaluation.specs.State.{Activation, Code, code_at}
 use Rattle.es5_evaluation.specs.Task.{Scope, Task, ◌>>=◌}
-use Rattle.es5_evaluation.specs.Declared.{arguments_name, own_code}
+use Rattle.es5_evaluation.specs.Declared.{own_code}
 use Rattle.es5_evaluation.specs.Evaluate.{activation, all, arguments_object, enter, entered, left, run_body}
 use Rattle.es5_host.specs.Answers.{with_new}
 use Rattle.es5_objects.specs.Heap.{Heap}

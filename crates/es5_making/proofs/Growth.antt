@@ -1,11 +1,11 @@
 -- Stores in which one cell more stands.
-use Rattle.std.proofs.Common.{◌≡◌, ℕ, ◌+◌, ◌≤◌, ◌<◌, List, [], ◌∷◌, ◌++◌, length, map, Result, Ok, Err, refl, sym, ap, ◌∙◌, subst, arith}
+use Rattle.std.proofs.Common.{◌≡◌, ◌+◌, ◌≤◌, List, [], ◌∷◌, ◌++◌, length, map, Result, Ok, Err, refl, sym, ap, ◌∙◌, subst, arith}
 use Rattle.std.proofs.lemmas.List.{length-append, length-map}
 use Rattle.opal_base.specs.Shown.{HostCall}
 use Rattle.es5_tree.specs.Objects.Cells.{Cell}
 use Rattle.es5_tree.specs.Intrinsics.Lines.{Reading}
 use Rattle.es5_tree.specs.Intrinsics.Valid.{Valid}
-use Rattle.es5_evaluation.specs.State.{Activation, Code, State}
+use Rattle.es5_evaluation.specs.State.{Activation, Code}
 use Rattle.es5_evaluation.specs.Task.{Scope, Task}
 use Rattle.es5_evaluation.specs.Run.{at_first}
 use Rattle.es5_host.specs.Answers.{with_new}

@@ -1,5 +1,5 @@
 -- Objects that get the properties of an object expression one after the other.
-use Rattle.std.proofs.Common.{◌≡◌, ℕ, ◌+◌, ◌<◌, ◌≤◌, ◌⊎◌, ⊎_elim, inl, inr, min, List, [], ◌∷◌, ◌++◌, length, map, pos, drop, get_or, slice_get, Option, None, Some, refl, sym, ap, ap₂, subst, ◌∙◌, arith, drop_of_length-le}
+use Rattle.std.proofs.Common.{◌≡◌, ℕ, ◌+◌, ◌<◌, ◌≤◌, ◌⊎◌, ⊎_elim, inl, inr, min, List, [], ◌∷◌, length, map, pos, drop, slice_get, Some, refl, sym, ap, ap₂, subst, ◌∙◌, arith, drop_of_length-le}
 use Rattle.std.specs.List.{All}
 use Rattle.std.proofs.lemmas.Bool.{cases_lt}
 use Rattle.std.proofs.lemmas.List.{drop_more}

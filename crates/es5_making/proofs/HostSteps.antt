@@ -2,27 +2,22 @@
 use Rattle.std.proofs.Common.{◌≡◌, ℕ, ◌+◌, ◌<◌, ◌≤◌, List, [], ◌∷◌, ◌++◌, length, map, take, drop, Option, None, Some, Result, Ok, Err, IfErr, refl, sym, ap, ap₂, subst, ◌∙◌, arith, append-nil, append_assoc}
 use Rattle.std.proofs.lemmas.List.{length-append, length-set, take-append-drop}
 use Rattle.opal_base.specs.declared.place.Pos.{Pos}
-use Rattle.opal_base.specs.Outside.{Rose, TookFront, appended}
+use Rattle.opal_base.specs.Outside.{TookFront, appended}
 use Rattle.opal_base.specs.Shown.{HostCall, Wrote, Asked, output_of}
 use Rattle.opal_base.specs.Text.{utf8_of}
 use Rattle.es5_tree.specs.Values.{Text, Val, Undefined, Obj}
-use Rattle.es5_tree.specs.Objects.Cells.{Cell}
-use Rattle.es5_tree.specs.Objects.Links.{set_cell}
-use Rattle.es5_tree.specs.Intrinsics.Lines.{Reading, advanced}
 use Rattle.es5_tree.specs.Intrinsics.Rows.{Row, Gives, Sets, Makes, Throws, Invokes, Leaves, Writes, Reads}
-use Rattle.es5_tree.specs.Intrinsics.Valid.{Valid}
 use Rattle.es5_evaluation.specs.State.{State}
 use Rattle.es5_evaluation.specs.Task.{Completion, Normal, Scope, Task, Answers, walk, ◌>>=◌, with_object, with_new as with_new_object, printed, has_read}
-use Rattle.es5_evaluation.specs.Task as task
 use Rattle.es5_evaluation.specs.Evaluate.{Call, gives, row_task, type_error}
 use Rattle.es5_evaluation.specs.Run.{at_first}
 use Rattle.es5_objects.specs.declared.value.EsValue.{EsValue}
 use Rattle.es5_objects.specs.Values.{value_of}
-use Rattle.es5_objects.specs.Heap.{Heap, with_cell}
+use Rattle.es5_objects.specs.Heap.{Heap}
 use Rattle.es5_host.specs.declared.answer.HostAnswer.{HostAnswer}
 use Rattle.es5_host.specs.declared.answer.HostAnswer.TheVariants as answer
 use Rattle.es5_host.specs.declared.answer.OutKind.{OutKind as Kind}
-use Rattle.es5_host.specs.Answers.{Answered, Gave, HasRead, HasRoom, MakesObject, Took, WritesText, with_new}
+use Rattle.es5_host.specs.Answers.{Gave, HasRead, MakesObject, Took, WritesText}
 use Rattle.es5_host.specs.Values.{out_of}
 use Rattle.es5_code.specs.declared.node.Node.{Node}
 use Rattle.es5_code.specs.Trees.{code_in}

@@ -1,8 +1,7 @@
 -- Calls, by the kind of what is called.
-use Rattle.std.proofs.Common.{◌≡◌, ◌↔◌, ℕ, zero, suc, ◌+◌, ◌<◌, ◌≤◌, min, List, [], ◌∷◌, ◌++◌, length, map, slice_get, Option, None, Some, Result, Ok, Err, IfErr, refl, sym, ap, subst, ◌∙◌, arith}
+use Rattle.std.proofs.Common.{◌≡◌, ◌↔◌, ℕ, zero, suc, List, [], map, slice_get, Option, None, Some, Result, Ok, refl, sym, ap, subst, ◌∙◌}
 use Rattle.std.specs.Bool.{⊤}
 use Rattle.opal_base.specs.declared.place.Pos.{Pos}
-use Rattle.opal_base.specs.Outside.{Rose}
 use Rattle.opal_base.specs.Shown.{HostCall}
 use Rattle.es5_tree.specs.Values.{Val, Undefined, Null, Truth, Num, Str, Obj}
 use Rattle.es5_tree.specs.Ends.{Host}
@@ -25,10 +24,9 @@ use Rattle.es5_code.specs.Trees.{code_in}
 use Rattle.es5_store.specs.declared.effect.Effect.{Effect}
 use Rattle.es5_store.specs.declared.effect.Effect.TheVariants as effect
 use Rattle.es5_store.specs.declared.effect.Halt.{Halt}
-use Rattle.es5_store.specs.declared.effect.Halt.TheVariants as halt
 use Rattle.es5_store.specs.declared.store.Store.{Store}
 use Rattle.es5_store.specs.Store.{state_in}
-use Rattle.es5_store.specs.Steps.{Acted, HaltCaused, Quiet, Steps}
+use Rattle.es5_store.specs.Steps.{Acted, Quiet, Steps}
 use Rattle.es5_making.specs.declared.invocations.Invoked.{Invoked}
 use Rattle.es5_making.specs.declared.invocations.Invoked.TheVariants as invoked
 use Rattle.es5_making.specs.Invocations.{ActedBy}

@@ -4,7 +4,7 @@ use Rattle.std.proofs.lemmas.List.{map-append, length-map}
 use Rattle.es5_tree.specs.Values.{Obj}
 use Rattle.es5_tree.specs.Objects.Cells.{Cell, Function, new_cell}
 use Rattle.es5_tree.specs.Intrinsics.Made.{function_prototype}
-use Rattle.es5_evaluation.specs.Task.{Normal, Task, Make, walk, ◌>>=◌, with_code}
+use Rattle.es5_evaluation.specs.Task.{Normal, Make, walk, ◌>>=◌, with_code}
 use Rattle.es5_evaluation.specs.Evaluate.{gives, make_function}
 use Rattle.es5_host.specs.Answers.{with_new}
 use Rattle.es5_code.specs.declared.node.Node.{Node}

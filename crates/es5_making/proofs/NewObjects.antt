@@ -1,10 +1,10 @@
 -- New objects, step by step.
-use Rattle.std.proofs.Common.{◌≡◌, ℕ, ◌<◌, ◌≤◌, List, [], ◌∷◌, ◌++◌, length, map, Some, refl, sym, ap, ◌∙◌}
+use Rattle.std.proofs.Common.{◌≡◌, ℕ, List, [], length, map, Some, refl}
 use Rattle.es5_tree.specs.Values.{Text, Val, Obj}
 use Rattle.es5_tree.specs.Objects.Cells.{Cell, Object, new_cell}
 use Rattle.es5_tree.specs.Intrinsics.Made.{object_prototype}
 use Rattle.es5_tree.specs.Intrinsics.Rows.{array_of}
-use Rattle.es5_evaluation.specs.Task.{Normal, Task, Make, walk, ◌>>=◌}
+use Rattle.es5_evaluation.specs.Task.{Task, Make, walk, ◌>>=◌}
 use Rattle.es5_evaluation.specs.Evaluate.{gives, make_array, make_object, with_properties}
 use Rattle.es5_objects.specs.Heap.{Heap}
 use Rattle.es5_host.specs.Answers.{with_new}

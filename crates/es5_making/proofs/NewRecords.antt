@@ -2,7 +2,7 @@
 use Rattle.std.proofs.Common.{◌≡◌, ℕ, List, [], ◌∷◌, ◌++◌, length, map, Some, refl, sym, ap, ◌∙◌, subst}
 use Rattle.std.proofs.lemmas.List.{map-append, length-map}
 use Rattle.es5_tree.specs.Values.{Text, Val}
-use Rattle.es5_tree.specs.declared.tree.Catch.{Catch, Catch-F, out-Catch, roll-Catch, out-roll-Catch}
+use Rattle.es5_tree.specs.declared.tree.Catch.{Catch, Catch-F, roll-Catch, out-roll-Catch}
 use Rattle.es5_tree.specs.declared.tree.EsExpr.{EsExpr}
 use Rattle.es5_tree.specs.declared.tree.EsKind.{EsKind}
 use Rattle.es5_tree.specs.declared.tree.EsStmt.{EsStmt}

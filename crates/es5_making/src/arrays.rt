@@ -16,23 +16,9 @@ use crate::objects::{ARRAY_PROTOTYPE, GREATEST, new_object};
 use es5_host::{EsValues, fill};
 use es5_objects::{CellKind, EsValue, ObjHeap};
 use es5_pending::Completion;
-use es5_store::{Effect, Halt, Store};
+use es5_store::{Effect, Halt, Store, is_named};
 use opal_base::NoMemory;
 use std::alloc::Global;
-
-/// Whether a value names an object that is there, or none.
-pub(crate) fn is_named(heap: &ObjHeap, value: &EsValue) -> bool
-    ensures { IsTrue result → Names (length heap.now.cells) (value_of value.now) }
-{
-    match value {
-        EsValue::Obj(o) => *o < heap.len(),
-        EsValue::Undefined => true,
-        EsValue::Null => true,
-        EsValue::Bool(_) => true,
-        EsValue::Num(_) => true,
-        EsValue::Str(_) => true,
-    }
-}
 
 /// Whether each of the values names an object that is there, or none.
 pub(crate) fn are_named(heap: &ObjHeap, values: &EsValues) -> bool
@@ -96,6 +82,7 @@ pub(crate) fn new_filled(
 pub fn make_array(alloc: Global, store: &mut Store, values: EsValues) -> Result<Effect, Halt>
     requires sound { Sound store.old }
     ensures sound { OnOk result (Sound store.new) }
+    ensures limit { store.new.limit ≡ store.old.limit }
     ensures does { (T : List Node) (ρ : Scope) → Quiet result T ρ (make_array values) store.old store.new }
 {
     if store.is_full() {

@@ -35,6 +35,7 @@ fn enter_record(
     requires sound { Sound store.old }
     requires names { function.now.names_arguments ≡ is_some arguments }
     ensures sound { OnOk result (Sound store.new) }
+    ensures limit { store.new.limit ≡ store.old.limit }
     ensures does { (T : List Node) (ρ : Scope) → Declares T function.now → Quiet result T ρ (run_body (stmts_in T function.now.body) (value_of this) (activation (code_of T function.now) f outer args.now (arguments_bound arguments))) store.old store.new }
 {
     if store.is_full() {
@@ -67,6 +68,7 @@ fn enter_listed(
     requires sound { Sound store.old }
     requires names { function.now.names_arguments ≡ true }
     ensures sound { OnOk result (Sound store.new) }
+    ensures limit { store.new.limit ≡ store.old.limit }
     ensures does { (T : List Node) (ρ : Scope) → Declares T function.now → Quiet result T ρ (entered true (code_of T function.now) f outer (value_of this) args.now) store.old store.new }
 {
     if store.is_full() {
@@ -100,6 +102,7 @@ pub fn enter(
 ) -> Result<Effect, Halt>
     requires sound { Sound store.old }
     ensures sound { OnOk result (Sound store.new) }
+    ensures limit { store.new.limit ≡ store.old.limit }
     ensures does { (ρ : Scope) → Quiet result table.now.nodes ρ (enter (code_at (map (code_in table.now.nodes) store.old.codes.items) code) f outer (value_of this) args.now) store.old store.new }
 {
     let Some(node) = node_of(&store.codes, code) else {

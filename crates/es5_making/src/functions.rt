@@ -30,6 +30,7 @@ fn keep(codes: &mut Vec<NodeId>, node: NodeId) -> Result<(), NoMemory>
 pub fn make_function(store: &mut Store, node: NodeId, r: usize) -> Result<Effect, Halt>
     requires sound { Sound store.old }
     ensures sound { OnOk result (Sound store.new) }
+    ensures limit { store.new.limit ≡ store.old.limit }
     ensures does { (T : List Node) (ρ : Scope) → Quiet result T ρ (make_function (code_in T node) r) store.old store.new }
 {
     if store.is_full() {

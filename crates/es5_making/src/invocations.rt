@@ -3,7 +3,6 @@
 ghost use Rattle.std.specs.Prelude.{◌≡◌, ◌↔◌, ℕ, ◌+◌, ◌<◌, ◌≤◌, List, length, slice_get, IfErr, IsTrue, OnOk};
 ghost use Rattle.es5_tree.specs.Values.{Obj};
 ghost use Rattle.es5_tree.specs.Intrinsics.Rows.{row};
-ghost use Rattle.es5_evaluation.specs.Run.{at_first};
 ghost use Rattle.es5_evaluation.specs.Task.{Scope};
 ghost use Rattle.es5_evaluation.specs.Evaluate.{Call, host_functions, invoke, invoke_by, not_a_function, passed, row_task};
 ghost use Rattle.es5_objects.specs.Values.{value_of};
@@ -14,13 +13,13 @@ ghost use Rattle.es5_store.specs.Steps.{Acted, HaltCaused, Quiet};
 ghost use Rattle.es5_making.specs.Invocations.{ActedBy};
 ghost use Rattle.std.specs.declared.option.Option.{Option};
 
-use crate::arrays::{are_named, is_named};
+use crate::arrays::are_named;
 use crate::calls::enter;
 use es5_code::NodeTable;
 use es5_host::{EsValues, HostAnswer, HostFn, OutKind, host_call, host_fn};
 use es5_objects::{CellKind, EsValue};
 use es5_pending::Completion;
-use es5_store::{Effect, Halt, Store, raise, type_error};
+use es5_store::{Effect, Halt, Store, is_named, raise, type_error};
 use opal_base::{Pos, Sink};
 use std::alloc::Global;
 
@@ -37,22 +36,11 @@ pub(crate) enum Invoked {
     },
 }
 
-/// The objects and records that stand at the start.
-const AT_FIRST: u64 = 31;
-
-// Whether there are more cells than the run may make.
-fn is_over(store: &Store) -> bool
-    ensures { IsTrue result ↔ (store.now.limit + at_first < length store.now.heap.cells + length store.now.records.items) }
-{
-    let most = AT_FIRST + u64::from(store.limit);
-    let records = store.records.len() as u64;
-    records > most || u64::from(store.heap.len()) > most - records
-}
-
 // Throws a TypeError, since what is called is no function.
 fn no_function(alloc: Global, store: &mut Store) -> Result<Effect, Halt>
     requires sound { Sound store.old }
     ensures sound { OnOk result (Sound store.new) }
+    ensures limit { store.new.limit ≡ store.old.limit }
     ensures does { (T : List Node) (ρ : Scope) (told : Option (List ℕ)) → Acted result T ρ not_a_function store.old store.new told told }
     ensures cause { (n : ℕ) → IfErr result (λ h. HaltCaused h n n) }
 {
@@ -63,6 +51,7 @@ fn no_function(alloc: Global, store: &mut Store) -> Result<Effect, Halt>
 fn refused(alloc: Global, store: &mut Store) -> Result<Invoked, Halt>
     requires sound { Sound store.old }
     ensures sound { OnOk result (Sound store.new) }
+    ensures limit { store.new.limit ≡ store.old.limit }
     ensures does { (call : Call) (T : List Node) (ρ : Scope) (told : Option (List ℕ)) → ActedBy result call T ρ not_a_function store.old store.new told told }
     ensures cause { (n : ℕ) → IfErr result (λ h. HaltCaused h n n) }
 {
@@ -84,6 +73,7 @@ fn call_host<S: Sink>(
 ) -> Result<Invoked, Halt>
     requires sound { Sound store.old }
     ensures sound { OnOk result (Sound store.new) }
+    ensures limit { store.new.limit ≡ store.old.limit }
     ensures does { (call : Call) (T : List Node) (ρ : Scope) → ActedBy result call T ρ (row_task call pos (row (fn_of which) store.old.heap.cells store.old.lines (value_of this.now) args.now)) store.old store.new (S.told sink.old) (S.told sink.new) }
     ensures later { S.faults sink.old ≤ S.faults sink.new }
     ensures cause { IfErr result (λ h. HaltCaused h (S.faults sink.old) (S.faults sink.new)) }
@@ -101,7 +91,7 @@ fn call_host<S: Sink>(
         sink,
     ) {
         HostAnswer::Value(value) => {
-            if is_over(store) {
+            if store.is_over() {
                 return Err(Halt::CellsFull);
             }
             Ok(Invoked::Done(Effect::Ended(Completion::Normal(value))))
@@ -132,6 +122,7 @@ fn invoke_once<S: Sink>(
 ) -> Result<Invoked, Halt>
     requires sound { Sound store.old }
     ensures sound { OnOk result (Sound store.new) }
+    ensures limit { store.new.limit ≡ store.old.limit }
     ensures does { (call : Call) (ρ : Scope) → ActedBy result call table.now.nodes ρ (invoke_by call pos f (value_of this) args.now) store.old store.new (S.told sink.old) (S.told sink.new) }
     ensures later { S.faults sink.old ≤ S.faults sink.new }
     ensures cause { IfErr result (λ h. HaltCaused h (S.faults sink.old) (S.faults sink.new)) }
@@ -179,6 +170,7 @@ fn invoke_passed<S: Sink>(
 ) -> Result<Effect, Halt>
     requires sound { Sound store.old }
     ensures sound { OnOk result (Sound store.new) }
+    ensures limit { store.new.limit ≡ store.old.limit }
     ensures does { (ρ : Scope) → Acted result table.now.nodes ρ (passed pos f (value_of this) args.now) store.old store.new (S.told sink.old) (S.told sink.new) }
     ensures later { S.faults sink.old ≤ S.faults sink.new }
     ensures cause { IfErr result (λ h. HaltCaused h (S.faults sink.old) (S.faults sink.new)) }
@@ -209,6 +201,7 @@ fn invoke_function<S: Sink>(
 ) -> Result<Effect, Halt>
     requires sound { Sound store.old }
     ensures sound { OnOk result (Sound store.new) }
+    ensures limit { store.new.limit ≡ store.old.limit }
     ensures does { (ρ : Scope) → Acted result table.now.nodes ρ (invoke pos (Obj f) (value_of this) args.now) store.old store.new (S.told sink.old) (S.told sink.new) }
     ensures later { S.faults sink.old ≤ S.faults sink.new }
     ensures cause { IfErr result (λ h. HaltCaused h (S.faults sink.old) (S.faults sink.new)) }
@@ -237,6 +230,7 @@ pub fn invoke<S: Sink>(
 ) -> Result<Effect, Halt>
     requires sound { Sound store.old }
     ensures sound { OnOk result (Sound store.new) }
+    ensures limit { store.new.limit ≡ store.old.limit }
     ensures does { (ρ : Scope) → Acted result table.now.nodes ρ (invoke pos (value_of function.now) (value_of this) args) store.old store.new (S.told sink.old) (S.told sink.new) }
     ensures later { S.faults sink.old ≤ S.faults sink.new }
     ensures cause { IfErr result (λ h. HaltCaused h (S.faults sink.old) (S.faults sink.new)) }

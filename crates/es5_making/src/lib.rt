@@ -10,8 +10,6 @@ mod invocations;
 mod objects;
 mod properties;
 mod records;
-#[cfg(test)]
-mod tests;
 
 pub use activations::declare;
 pub use arrays::make_array;

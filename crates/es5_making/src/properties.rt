@@ -71,6 +71,7 @@ fn new_holder(heap: &mut ObjHeap, names: &Names, values: &EsValues) -> Result<u3
 pub fn make_object(store: &mut Store, names: &Names, values: EsValues) -> Result<Effect, Halt>
     requires sound { Sound store.old }
     ensures sound { OnOk result (Sound store.new) }
+    ensures limit { store.new.limit ≡ store.old.limit }
     ensures does { (T : List Node) (ρ : Scope) → Quiet result T ρ (make_object names.now values) store.old store.new }
 {
     if store.is_full() {

@@ -51,6 +51,7 @@ pub fn catch(
 ) -> Result<Effect, Halt>
     requires sound { Sound store.old }
     ensures sound { OnOk result (Sound store.new) }
+    ensures limit { store.new.limit ≡ store.old.limit }
     ensures does { (T : List Node) (ρ : Scope) → ρ.innermost ≡ r → Quiet result T ρ (caught_by (roll-Catch (record { name = name.now; body = stmts_in T body })) ρ (value_of value)) store.old store.new }
 {
     if store.is_full() {

@@ -7,8 +7,6 @@ mod number;
 mod operated;
 mod operator;
 mod property;
-#[cfg(test)]
-mod tests;
 mod text;
 mod value;
 

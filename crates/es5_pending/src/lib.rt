@@ -11,8 +11,6 @@ mod lists;
 mod places;
 mod stack;
 mod statements;
-#[cfg(test)]
-mod tests;
 
 pub use action::{Act, Action, Begins, Fault};
 pub use ends::after;

@@ -14,6 +14,8 @@ use Rattle.es5_tree.specs.declared.tree.EsStmt.TheVariants as stmt
 use Rattle.es5_tree.specs.declared.tree.Script.{Script}
 use Rattle.es5_tree.specs.Grammar.Spelling.{bare, bare_stmt}
 use Rattle.es5_tree.proofs.Grammar.Scripts.{one_spelled_is}
+use Rattle.es5_tree.proofs.Bare.{bare_catch, bare_expr}
+use Rattle.es5_tree.proofs.Bare as b
 use Rattle.es5_printer.specs.declared.level.Level.{Level}
 use Rattle.es5_printer.specs.declared.level.Level.TheVariants as level
 use Rattle.es5_printer.specs.Forms as printed
@@ -25,8 +27,7 @@ use Rattle.es5_printer.proofs.Equations.{catch_is, expr_layer, stmt_block, stmt_
 use Rattle.es5_spelling.specs.Laws.{SameBytesSameText, SpelledIsSpellable}
 use Rattle.es5_spelling.specs.Spellable as s
 use Rattle.es5_spelling.specs.Spellable.{AreExprs, AreStatements, IsBinding, IsForm, IsStatement, Spellable}
-use Rattle.es5_spelling.proofs.Bare.{bare_catch, bare_expr, Same, same_members, same_targets, SameStmt}
-use Rattle.es5_spelling.proofs.Bare as b
+use Rattle.es5_spelling.proofs.Bare.{Same, same_members, same_targets, SameStmt}
 use Rattle.es5_spelling.proofs.Likeness as like
 use Rattle.es5_spelling.proofs.ReadBack.{read_is_spellable_is}
 use Rattle.es5_spelling.proofs.SameText.{more_lines, more_parts, no_lines, no_parts, same_at, same_behind, same_block, same_infixed, same_joined, same_lines, same_listed, same_marked, same_minus, same_opens, same_pairs, same_prefixed, same_value, SameBytes, SameForm, SameLines, SamePart, SameParts}

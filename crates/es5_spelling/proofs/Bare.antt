@@ -1,46 +1,16 @@
 -- Trees that are the same but for sites and places.
 use Rattle.std.proofs.Common.{◌≡◌, ℕ, List, map, Option, Some, None, refl, sym, ap, ◌∙◌}
 use Rattle.opal_base.specs.declared.place.Pos.{Pos}
-use Rattle.es5_tree.specs.declared.tree.Catch.{Catch, Catch-F, out-Catch, roll-Catch, roll-out-Catch, fold-Catch, fold-roll-Catch}
-use Rattle.es5_tree.specs.declared.tree.EsExpr.{EsExpr, fold-EsExpr, fold-roll-EsExpr}
-use Rattle.es5_tree.specs.declared.tree.EsKind.{EsKind, EsKind-F, out-EsKind, roll-EsKind, out-roll-EsKind, roll-out-EsKind, map-EsKind, fold-EsKind, fold-roll-EsKind}
+use Rattle.es5_tree.specs.declared.tree.Catch.{Catch, roll-Catch}
+use Rattle.es5_tree.specs.declared.tree.EsExpr.{EsExpr}
+use Rattle.es5_tree.specs.declared.tree.EsKind.{EsKind, EsKind-F, out-EsKind, roll-EsKind}
 use Rattle.es5_tree.specs.declared.tree.EsKind.TheVariants as kind
-use Rattle.es5_tree.specs.declared.tree.EsStmt.{EsStmt, EsStmt-F, out-EsStmt, roll-EsStmt, out-roll-EsStmt, roll-out-EsStmt, map-EsStmt, fold-roll-EsStmt}
+use Rattle.es5_tree.specs.declared.tree.EsStmt.{EsStmt, EsStmt-F, roll-EsStmt}
 use Rattle.es5_tree.specs.declared.tree.EsStmt.TheVariants as stmt
 use Rattle.es5_tree.specs.declared.tree.Operator.{Operator}
 use Rattle.es5_tree.specs.Grammar.Nodes.{is_member_form, is_target_form}
 use Rattle.es5_tree.specs.Grammar.Spelling.{bare_kind, bare_stmt, no_place}
-
-unfoldable pub bare_form : EsKind → EsKind
-bare_form = fold-EsKind EsKind EsStmt Catch EsExpr bare_kind roll-EsStmt roll-Catch (λ e. record { kind = e.kind; origin = None; pos = no_place })
-
-unfoldable pub bare_catch : Catch → Catch
-bare_catch = fold-Catch EsKind EsStmt Catch EsExpr bare_kind roll-EsStmt roll-Catch (λ e. record { kind = e.kind; origin = None; pos = no_place })
-
-unfoldable pub bare_expr : EsExpr → EsExpr
-bare_expr = fold-EsExpr EsKind EsStmt Catch EsExpr bare_kind roll-EsStmt roll-Catch (λ e. record { kind = e.kind; origin = None; pos = no_place })
-
-abbrev pub bare_layer : EsKind-F EsKind EsStmt Catch EsExpr → EsKind-F EsKind EsStmt Catch EsExpr
-bare_layer l = map-EsKind EsKind EsStmt Catch EsExpr EsKind EsStmt Catch EsExpr bare_form bare_stmt bare_catch bare_expr l
-
-abbrev pub bare_stmt_layer : EsStmt-F EsKind EsStmt Catch EsExpr → EsStmt-F EsKind EsStmt Catch EsExpr
-bare_stmt_layer l = map-EsStmt EsKind EsStmt Catch EsExpr EsKind EsStmt Catch EsExpr bare_form bare_stmt bare_catch bare_expr l
-
-pub expr_layer : (e : EsExpr) → bare_expr e ≡ record { kind = bare_form e.kind; origin = None; pos = no_place }
-unfolding bare_expr bare_form
-expr_layer e = fold-roll-EsExpr EsKind EsStmt Catch EsExpr bare_kind roll-EsStmt roll-Catch (λ e. record { kind = e.kind; origin = None; pos = no_place }) (record { kind = e.kind; origin = e.origin; pos = e.pos })
-
-kind_layer : (l : EsKind-F EsKind EsStmt Catch EsExpr) → bare_form (roll-EsKind l) ≡ bare_kind (bare_layer l)
-unfolding bare_expr bare_form bare_stmt bare_catch
-kind_layer l = fold-roll-EsKind EsKind EsStmt Catch EsExpr bare_kind roll-EsStmt roll-Catch (λ e. record { kind = e.kind; origin = None; pos = no_place }) l
-
-stmt_layer : (l : EsStmt-F EsKind EsStmt Catch EsExpr) → bare_stmt (roll-EsStmt l) ≡ roll-EsStmt (bare_stmt_layer l)
-unfolding bare_expr bare_form bare_stmt bare_catch
-stmt_layer l = fold-roll-EsStmt EsKind EsStmt Catch EsExpr bare_kind roll-EsStmt roll-Catch (λ e. record { kind = e.kind; origin = None; pos = no_place }) l
-
-pub catch_layer : (l : Catch-F EsKind EsStmt Catch EsExpr) → bare_catch (roll-Catch l) ≡ roll-Catch (record { name = l.name; body = map bare_stmt l.body })
-unfolding bare_expr bare_form bare_stmt bare_catch
-catch_layer l = fold-roll-Catch EsKind EsStmt Catch EsExpr bare_kind roll-EsStmt roll-Catch (λ e. record { kind = e.kind; origin = None; pos = no_place }) l
+use Rattle.es5_tree.proofs.Bare.{KindLayer, StmtLayer, placeless, bare_form, bare_catch, bare_expr, bare_layer, bare_stmt_layer, expr_layer, form_layer, stmt_layer, out_bare, bare_catch_is}
 
 -- ---- the same forms
 
@@ -56,8 +26,8 @@ same_is e = record { is = ap bare_form e }
 pub same_expr : (e f : EsExpr) → Same e.kind f.kind → bare_expr e ≡ bare_expr f
 same_expr e f h = expr_layer e ∙ (ap (λ k. record { kind = k; origin = None; pos = no_place }) h.is ∙ sym (expr_layer f))
 
-by_layers : (k m : EsKind) (l n : EsKind-F EsKind EsStmt Catch EsExpr) → roll-EsKind l ≡ k → roll-EsKind n ≡ m → bare_kind (bare_layer l) ≡ bare_kind (bare_layer n) → Same k m
-by_layers k m l n e f h = record { is = ap bare_form (sym e) ∙ (kind_layer l ∙ (h ∙ (sym (kind_layer n) ∙ ap bare_form f))) }
+by_layers : (k m : EsKind) (l n : KindLayer) → roll-EsKind l ≡ k → roll-EsKind n ≡ m → bare_kind (bare_layer l) ≡ bare_kind (bare_layer n) → Same k m
+by_layers k m l n e f h = record { is = ap bare_form (sym e) ∙ (form_layer l ∙ (h ∙ (sym (form_layer n) ∙ ap bare_form f))) }
 
 pub same_array : (es fs : List EsExpr) → map bare_expr es ≡ map bare_expr fs → Same (kind.Array es) (kind.Array fs)
 same_array es fs h = by_layers _ _ (EsKind-F.Array es) (EsKind-F.Array fs) (kind.rolls-Array es) (kind.rolls-Array fs) (ap (λ x. roll-EsKind (EsKind-F.Array x)) h)
@@ -122,30 +92,15 @@ same_assign e f k l h i =
 
 -- ---- they are members and targets alike
 
-abbrev pub placeless : EsKind-F EsKind EsStmt Catch EsExpr → EsKind-F EsKind EsStmt Catch EsExpr
-placeless (EsKind-F.Member base name mark) = EsKind-F.Member base name no_place
-placeless (EsKind-F.Index base key mark) = EsKind-F.Index base key no_place
-placeless form = form
-
-bare_kind_is : (l : EsKind-F EsKind EsStmt Catch EsExpr) → bare_kind l ≡ roll-EsKind (placeless l)
-bare_kind_is (EsKind-F.Member base name mark) = sym (kind.rolls-Member base name no_place)
-bare_kind_is (EsKind-F.Index base key mark) = sym (kind.rolls-Index base key no_place)
-bare_kind_is _ = refl
-
-member_layer : (l : EsKind-F EsKind EsStmt Catch EsExpr) → is_member_form (placeless (bare_layer l)) ≡ is_member_form l
+member_layer : (l : KindLayer) → is_member_form (placeless (bare_layer l)) ≡ is_member_form l
 member_layer (EsKind-F.Member base name mark) = refl
 member_layer (EsKind-F.Index base key mark) = refl
 member_layer _ = refl
 
-target_layer : (l : EsKind-F EsKind EsStmt Catch EsExpr) → is_target_form (placeless (bare_layer l)) ≡ is_target_form l
+target_layer : (l : KindLayer) → is_target_form (placeless (bare_layer l)) ≡ is_target_form l
 target_layer (EsKind-F.Member base name mark) = refl
 target_layer (EsKind-F.Index base key mark) = refl
 target_layer _ = refl
-
-pub out_bare : (k : EsKind) → out-EsKind (bare_form k) ≡ placeless (bare_layer (out-EsKind k))
-out_bare k =
-    ap (λ x. out-EsKind (bare_form x)) (sym (roll-out-EsKind k))
-    ∙ (ap out-EsKind (kind_layer (out-EsKind k) ∙ bare_kind_is (bare_layer (out-EsKind k))) ∙ out-roll-EsKind (placeless (bare_layer (out-EsKind k))))
 
 pub same_members : (k m : EsKind) → Same k m → is_member_form (out-EsKind k) ≡ is_member_form (out-EsKind m)
 same_members k m h =
@@ -165,7 +120,7 @@ pub record SameStmt (s t : EsStmt) : Type 0 where
 pub stmt_refl : (s : EsStmt) → SameStmt s s
 stmt_refl s = record { is = refl }
 
-stmt_by_layers : (s t : EsStmt) (l n : EsStmt-F EsKind EsStmt Catch EsExpr) → roll-EsStmt l ≡ s → roll-EsStmt n ≡ t → bare_stmt_layer l ≡ bare_stmt_layer n → SameStmt s t
+stmt_by_layers : (s t : EsStmt) (l n : StmtLayer) → roll-EsStmt l ≡ s → roll-EsStmt n ≡ t → bare_stmt_layer l ≡ bare_stmt_layer n → SameStmt s t
 stmt_by_layers s t l n e f h = record { is = ap bare_stmt (sym e) ∙ (stmt_layer l ∙ (ap roll-EsStmt h ∙ (sym (stmt_layer n) ∙ ap bare_stmt f))) }
 
 pub same_var : (u : List ℕ) (e f : EsExpr) → Same e.kind f.kind → SameStmt (stmt.Var u (Some e)) (stmt.Var u (Some f))
@@ -199,15 +154,9 @@ same_return e f h = stmt_by_layers _ _ (EsStmt-F.Return (Some e)) (EsStmt-F.Retu
 pub same_throw : (e f : EsExpr) → Same e.kind f.kind → SameStmt (stmt.Throw e) (stmt.Throw f)
 same_throw e f h = stmt_by_layers _ _ (EsStmt-F.Throw e) (EsStmt-F.Throw f) (stmt.rolls-Throw e) (stmt.rolls-Throw f) (ap (λ x. EsStmt-F.Throw x) (same_expr e f h))
 
-pub out_bare_stmt : (t : EsStmt) → out-EsStmt (bare_stmt t) ≡ bare_stmt_layer (out-EsStmt t)
-out_bare_stmt t = ap (λ x. out-EsStmt (bare_stmt x)) (sym (roll-out-EsStmt t)) ∙ (ap out-EsStmt (stmt_layer (out-EsStmt t)) ∙ out-roll-EsStmt (bare_stmt_layer (out-EsStmt t)))
-
 -- what was caught under the same name, with the same statements
 pub same_catch : (c d : Catch) → c.name ≡ d.name → map bare_stmt c.body ≡ map bare_stmt d.body → bare_catch c ≡ bare_catch d
-same_catch c d e h = bare_is c ∙ (ap (λ n. roll-Catch (record { name = n; body = map bare_stmt c.body })) e ∙ (ap (λ b. roll-Catch (record { name = d.name; body = b })) h ∙ sym (bare_is d)))
-  where
-    bare_is : (c : Catch) → bare_catch c ≡ roll-Catch (record { name = c.name; body = map bare_stmt c.body })
-    bare_is c = ap bare_catch (sym (roll-out-Catch c)) ∙ catch_layer (out-Catch c)
+same_catch c d e h = bare_catch_is c ∙ (ap (λ n. roll-Catch (record { name = n; body = map bare_stmt c.body })) e ∙ (ap (λ b. roll-Catch (record { name = d.name; body = b })) h ∙ sym (bare_catch_is d)))
 
 pub same_try_catch : (b d : List EsStmt) (c g : Catch) → map bare_stmt b ≡ map bare_stmt d → bare_catch c ≡ bare_catch g → SameStmt (stmt.Try b (Some c) None) (stmt.Try d (Some g) None)
 same_try_catch b d c g h i =

@@ -23,9 +23,10 @@ use Rattle.es5_tree.specs.Grammar.Nodes.{expr_of, function, made, name_in, name_
 use Rattle.es5_tree.specs.Grammar.Spelling.{bare_stmt}
 use Rattle.es5_tree.specs.Grammar.Table.{table}
 use Rattle.es5_tree.specs.Grammar.Terminals.{a, code_of, identifier, key, op, terminal_of, terminal_of_word}
+use Rattle.es5_tree.proofs.Bare.{bare_expr}
 use Rattle.es5_spelling.specs.Spellable.{none_twice}
 use Rattle.es5_spelling.proofs.Names.{not_true}
-use Rattle.es5_spelling.proofs.Bare.{bare_expr, Same, same_expr, same_function, same_object, SameStmt}
+use Rattle.es5_spelling.proofs.Bare.{Same, same_expr, same_function, same_object, SameStmt}
 use Rattle.es5_spelling.proofs.Cuts.{AreTokens, both, end, next, Then}
 use Rattle.es5_spelling.proofs.Levels.{Spelled}
 use Rattle.es5_spelling.proofs.Primaries.{Fresh, or_none, such_token}

@@ -9,7 +9,8 @@ use Rattle.es5_tree.specs.declared.tree.EsStmt.{EsStmt, EsStmt-F, out-EsStmt, ro
 use Rattle.es5_tree.specs.declared.tree.EsStmt.TheVariants as stmt
 use Rattle.es5_tree.specs.declared.tree.Operator.{Operator}
 use Rattle.es5_tree.specs.Grammar.Spelling.{bare_stmt, no_place}
-use Rattle.es5_spelling.proofs.Bare.{bare_catch, bare_expr, bare_layer, bare_stmt_layer, out_bare, out_bare_stmt, placeless, Same, SameStmt}
+use Rattle.es5_tree.proofs.Bare.{bare_catch, bare_expr, bare_layer, bare_stmt_layer, out_bare, out_bare_stmt, placeless}
+use Rattle.es5_spelling.proofs.Bare.{Same, SameStmt}
 
 abbrev K-F : Type 0
 K-F = EsKind-F EsKind EsStmt Catch EsExpr

@@ -22,7 +22,8 @@ use Rattle.es5_tree.specs.Grammar.Nodes.{access, accessed, assigned, binary, by_
 use Rattle.es5_tree.specs.Grammar.Statements.{begins_no_other}
 use Rattle.es5_tree.specs.Grammar.Table.{table}
 use Rattle.es5_tree.specs.Grammar.Terminals.{code_of, identifier, key, mark_code, op, terminal_of, terminal_of_word, token_code}
-use Rattle.es5_spelling.proofs.Bare.{bare_expr, Same, same_and, same_assign, same_binary, same_call, same_cond, same_delete, same_index, same_member, same_members, same_or, same_targets}
+use Rattle.es5_tree.proofs.Bare.{bare_expr}
+use Rattle.es5_spelling.proofs.Bare.{Same, same_and, same_assign, same_binary, same_call, same_cond, same_delete, same_index, same_member, same_members, same_or, same_targets}
 use Rattle.es5_spelling.proofs.Cuts.{AreTokens, both, end, next, Then}
 use Rattle.es5_spelling.proofs.Levels.{Spelled, starts_more, starts_token}
 use Rattle.es5_spelling.proofs.Rules.{as_expr, climbs, one_more, rule_at, Rules, token_is}

@@ -22,7 +22,8 @@ use Rattle.es5_tree.specs.Grammar.Nodes.{expr_of, exprs, is_new, made, name_in, 
 use Rattle.es5_tree.specs.Grammar.Statements.{begins_no_other}
 use Rattle.es5_tree.specs.Grammar.Table.{table}
 use Rattle.es5_tree.specs.Grammar.Terminals.{a, code_of, identifier, key, op, terminal_of, terminal_of_word, token_code}
-use Rattle.es5_spelling.proofs.Bare.{bare_expr, same_array, same_expr, same_is}
+use Rattle.es5_tree.proofs.Bare.{bare_expr}
+use Rattle.es5_spelling.proofs.Bare.{same_array, same_expr, same_is}
 use Rattle.es5_spelling.proofs.Cuts.{AreTokens, both, end, next, Then}
 use Rattle.es5_spelling.proofs.Levels.{Spelled, starts_token}
 use Rattle.es5_spelling.proofs.Operators.{Arguments}

@@ -19,7 +19,8 @@ use Rattle.es5_tree.specs.Grammar.Nodes.{branched, caught, closed, expr_of, loop
 use Rattle.es5_tree.specs.Grammar.Statements.{any_statement, block_statement, both_branches, break_statement, catch_part, condition, continue_statement, empty_statement, ended, expression_statement, finally_part, first_branch, handlers, if_statement, return_statement, throw_statement, try_statement, variable_statement, while_statement}
 use Rattle.es5_tree.specs.Grammar.Table.{table}
 use Rattle.es5_tree.specs.Grammar.Terminals.{a, code_of, key, op, terminal_of, terminal_of_word}
-use Rattle.es5_spelling.proofs.Bare.{bare_catch, same_block, same_catch, same_if, same_if_else, same_return, same_statement, same_throw, same_try_both, same_try_catch, same_try_finally, same_var, same_while, SameStmt, stmt_refl}
+use Rattle.es5_tree.proofs.Bare.{bare_catch}
+use Rattle.es5_spelling.proofs.Bare.{same_block, same_catch, same_if, same_if_else, same_return, same_statement, same_throw, same_try_both, same_try_catch, same_try_finally, same_var, same_while, SameStmt, stmt_refl}
 use Rattle.es5_spelling.proofs.Bodies.{BodySpelled, number_of, StatementSpelled}
 use Rattle.es5_spelling.proofs.Cuts.{AreTokens, both, end, next, Then}
 use Rattle.es5_spelling.proofs.Levels.{Spelled, starts_more}

@@ -4,8 +4,6 @@
 mod checker;
 mod identifiers;
 mod laws;
-#[cfg(test)]
-mod tests;
 
 pub use checker::is_spellable;
 pub use laws::{

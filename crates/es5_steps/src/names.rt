@@ -75,6 +75,7 @@ fn undefined_name(alloc: Global) -> Result<EsText, NoMemory>
 pub fn read_name(alloc: Global, store: &mut Store, r: usize, name: &EsText) -> Result<Effect, Halt>
     requires sound { Sound store.old }
     ensures sound { OnOk result (Sound store.new) }
+    ensures limit { store.new.limit ≡ store.old.limit }
     ensures does { (T : List Node) (ρ : Scope) → Quiet result T ρ (read_name r name.now) store.old store.new }
 {
     match binding(&store.records, r, name.units()) {
@@ -96,6 +97,7 @@ pub fn type_of_name(
 ) -> Result<Effect, Halt>
     requires sound { Sound store.old }
     ensures sound { OnOk result (Sound store.new) }
+    ensures limit { store.new.limit ≡ store.old.limit }
     ensures does { (T : List Node) (ρ : Scope) → Quiet result T ρ (type_of_place r (task.Variable name.now)) store.old store.new }
 {
     match binding(&store.records, r, name.units()) {
@@ -115,6 +117,7 @@ pub fn type_of_name(
 pub fn type_of(alloc: Global, store: &mut Store, value: &EsValue) -> Result<Effect, Halt>
     requires sound { Sound store.old }
     ensures sound { OnOk result (Sound store.new) }
+    ensures limit { store.new.limit ≡ store.old.limit }
     ensures does { (T : List Node) (ρ : Scope) → Quiet result T ρ (type_of (value_of value.now)) store.old store.new }
 {
     match type_name(alloc, &store.heap, value) {
@@ -145,6 +148,7 @@ fn write_in(
     requires sound { Sound store.old }
     requires record { a < length store.old.records.items }
     ensures sound { OnOk result (Sound store.new) }
+    ensures limit { store.new.limit ≡ store.old.limit }
     ensures does { (T : List Node) (ρ : Scope) → Quiet result T ρ (write_in a (record_at (records_of store.old.records.items) a) name.now (value_of value)) store.old store.new }
 {
     let place = variable(&store.records, a, name);
@@ -181,6 +185,7 @@ pub fn write_name(
 ) -> Result<Effect, Halt>
     requires sound { Sound store.old }
     ensures sound { OnOk result (Sound store.new) }
+    ensures limit { store.new.limit ≡ store.old.limit }
     ensures does { (T : List Node) (ρ : Scope) → Quiet result T ρ (write_name r name.now (value_of value)) store.old store.new }
 {
     match binding(&store.records, r, name.units()) {

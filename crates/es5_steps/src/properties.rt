@@ -9,7 +9,6 @@ ghost use Rattle.es5_evaluation.specs.Evaluate.{can_put, delete_property, read_p
 ghost use Rattle.es5_tree.specs.Objects.Cells.{CanPut, IsLength, is_array_length, put};
 ghost use Rattle.es5_objects.specs.Heap.{with_cell};
 ghost use Rattle.es5_tree.specs.Objects.Links.{cell_at, get};
-ghost use Rattle.es5_tree.specs.Intrinsics.Valid.{Names};
 ghost use Rattle.es5_objects.specs.Values.{value_if, value_of};
 ghost use Rattle.es5_code.specs.declared.node.Node.{Node};
 ghost use Rattle.es5_store.specs.Store.{Sound};
@@ -19,26 +18,12 @@ use es5_host::OutKind;
 use es5_objects::{CellKind, EsText, EsValue, ObjHeap, is_length};
 use es5_operators::{holder_of, own_of_primitive};
 use es5_pending::Completion;
-use es5_store::{Effect, Halt, Store, type_error};
+use es5_store::{Effect, Halt, Store, is_named, type_error};
 use opal_base::{NoMemory, Pos, Units};
 use std::alloc::Global;
 
 /// 2^32-1, the greatest `length` of an array.
 const GREATEST_LENGTH: i64 = 4_294_967_295;
-
-/// Whether a value names an object that is there, or none.
-pub fn is_named(heap: &ObjHeap, value: &EsValue) -> bool
-    ensures { IsTrue result → Names (length heap.now.cells) (value_of value.now) }
-{
-    match value {
-        EsValue::Obj(o) => *o < heap.len(),
-        EsValue::Undefined => true,
-        EsValue::Null => true,
-        EsValue::Bool(_) => true,
-        EsValue::Num(_) => true,
-        EsValue::Str(_) => true,
-    }
-}
 
 // Whether a name is that of an array's `length`.
 fn is_array_length(heap: &ObjHeap, o: u32, name: &Units) -> bool
@@ -120,6 +105,7 @@ pub fn read_property(
 ) -> Result<Effect, Halt>
     requires sound { Sound store.old }
     ensures sound { OnOk result (Sound store.new) }
+    ensures limit { store.new.limit ≡ store.old.limit }
     ensures does { (T : List Node) (ρ : Scope) → Quiet result T ρ (read_property (value_of base.now) name.now) store.old store.new }
 {
     match holder_of(base) {
@@ -146,6 +132,7 @@ pub fn write_property(
 ) -> Result<Effect, Halt>
     requires sound { Sound store.old }
     ensures sound { OnOk result (Sound store.new) }
+    ensures limit { store.new.limit ≡ store.old.limit }
     ensures does { (T : List Node) (ρ : Scope) → Quiet result T ρ (write_property pos (value_of base.now) name.now (value_of value)) store.old store.new }
 {
     match base {
@@ -165,6 +152,7 @@ fn write_own(
 ) -> Result<Effect, Halt>
     requires sound { Sound store.old }
     ensures sound { OnOk result (Sound store.new) }
+    ensures limit { store.new.limit ≡ store.old.limit }
     ensures does { (T : List Node) (ρ : Scope) → Quiet result T ρ (write_property pos (Obj o) name.now (value_of value)) store.old store.new }
 {
     if o >= store.heap.len() || !is_named(&store.heap, &value) {
@@ -190,6 +178,7 @@ pub fn delete_property(
 ) -> Result<Effect, Halt>
     requires sound { Sound store.old }
     ensures sound { OnOk result (Sound store.new) }
+    ensures limit { store.new.limit ≡ store.old.limit }
     ensures does { (T : List Node) (ρ : Scope) → Quiet result T ρ (delete_property (value_of base.now) name.now) store.old store.new }
 {
     match base {
@@ -203,6 +192,7 @@ pub fn delete_property(
 fn delete_own(alloc: Global, store: &mut Store, o: u32, name: &EsText) -> Result<Effect, Halt>
     requires sound { Sound store.old }
     ensures sound { OnOk result (Sound store.new) }
+    ensures limit { store.new.limit ≡ store.old.limit }
     ensures does { (T : List Node) (ρ : Scope) → Quiet result T ρ (delete_property (Obj o) name.now) store.old store.new }
 {
     if o >= store.heap.len() {

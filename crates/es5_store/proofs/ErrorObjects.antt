@@ -1,5 +1,5 @@
 -- Error objects, property by property.
-use Rattle.std.proofs.Common.{◌≡◌, ℕ, ◌+◌, ◌<◌, ◌≤◌, List, [], ◌∷◌, ◌++◌, length, Some, OnOk, Result, Ok, Err, refl, sym, ap, ◌∙◌, subst, arith, set, codes}
+use Rattle.std.proofs.Common.{◌≡◌, ℕ, ◌+◌, ◌<◌, List, [], ◌∷◌, ◌++◌, length, Some, refl, sym, ap, ◌∙◌, subst, arith, codes}
 use Rattle.es5_tree.specs.Values.{Text, Str}
 use Rattle.es5_tree.specs.Objects.Cells.{Cell, Object, new_cell, put, with_value, with_property}
 use Rattle.es5_tree.specs.Objects.Links.{cell_at}

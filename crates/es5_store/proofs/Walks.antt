@@ -1,11 +1,10 @@
 -- Steps of tasks, one after another.
-use Rattle.std.proofs.Common.{◌≡◌, ℕ, ◌+◌, ◌≤◌, ◌<◌, List, [], ◌∷◌, ◌++◌, length, Result, Ok, Err, Option, Some, None, refl, sym, ap, ◌∙◌, subst, arith}
+use Rattle.std.proofs.Common.{◌≡◌, ℕ, ◌+◌, ◌≤◌, List, [], ◌∷◌, length, Result, Ok, Err, refl, sym, ap, ◌∙◌, subst, arith}
 use Rattle.std.proofs.lemmas.List.{length-append, length-map}
-use Rattle.opal_base.specs.Shown.{HostCall}
-use Rattle.es5_tree.specs.Values.{Text, Val, Obj}
+use Rattle.es5_tree.specs.Values.{Text, Obj}
 use Rattle.es5_tree.specs.Intrinsics.Valid.{Valid}
 use Rattle.es5_tree.specs.Objects.Cells.{Cell}
-use Rattle.es5_evaluation.specs.Task.{Completion, Throw, Scope, Task, Done, Make, Answers, walk, ◌>>=◌}
+use Rattle.es5_evaluation.specs.Task.{Throw, Scope, Task, Done, Make, walk, ◌>>=◌}
 use Rattle.es5_evaluation.specs.Evaluate.{raise, error_object}
 use Rattle.es5_evaluation.specs.Run.{at_first}
 use Rattle.es5_objects.specs.Heap.{Heap}

@@ -1,5 +1,5 @@
 -- The state that a store stands for, and when it is sound.
-use Rattle.std.specs.Prelude.{ℕ, ◌+◌, ◌≤◌, List, map, length}
+use Rattle.std.specs.Prelude.{◌+◌, ◌≤◌, List, map, length}
 use Rattle.opal_base.specs.Shown.{HostCall}
 use Rattle.es5_tree.specs.Intrinsics.Valid.{Valid}
 use Rattle.es5_evaluation.specs.State.{Activation, State}

@@ -78,6 +78,7 @@ fn make_error(
 pub fn raise(alloc: Global, store: &mut Store, name: &[u8], message: Units) -> Result<Effect, Halt>
     requires sound { Sound store.old }
     ensures sound { OnOk result (Sound store.new) }
+    ensures limit { store.new.limit ≡ store.old.limit }
     ensures does { (T : List Node) (ρ : Scope) → Quiet result T ρ (raise name.now message) store.old store.new }
 {
     if store.is_full() {
@@ -93,6 +94,7 @@ pub fn raise(alloc: Global, store: &mut Store, name: &[u8], message: Units) -> R
 pub fn type_error(alloc: Global, store: &mut Store, message: &[u8]) -> Result<Effect, Halt>
     requires sound { Sound store.old }
     ensures sound { OnOk result (Sound store.new) }
+    ensures limit { store.new.limit ≡ store.old.limit }
     ensures does { (T : List Node) (ρ : Scope) → Quiet result T ρ (type_error message.now) store.old store.new }
 {
     match word_units(alloc, message) {
@@ -105,6 +107,7 @@ pub fn type_error(alloc: Global, store: &mut Store, message: &[u8]) -> Result<Ef
 pub fn not_defined(alloc: Global, store: &mut Store, name: &Units) -> Result<Effect, Halt>
     requires sound { Sound store.old }
     ensures sound { OnOk result (Sound store.new) }
+    ensures limit { store.new.limit ≡ store.old.limit }
     ensures does { (T : List Node) (ρ : Scope) → Quiet result T ρ (not_defined name.now) store.old store.new }
 {
     match not_defined_message(alloc, name) {

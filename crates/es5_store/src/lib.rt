@@ -8,4 +8,4 @@ mod store;
 
 pub use effect::{Effect, Halt};
 pub use errors::{not_defined, raise, type_error};
-pub use store::{Record, Store, find};
+pub use store::{Record, Store, find, is_named};

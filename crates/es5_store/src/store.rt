@@ -1,10 +1,12 @@
 //! Objects, the code of functions, and activation records.
 
-ghost use Rattle.std.specs.Prelude.{◌≡◌, ◌↔◌, ◌≤◌, ◌<◌, [], ◌∷◌, ◌++◌, length, IsTrue, OnOk, OnErr, IfOk};
+ghost use Rattle.std.specs.Prelude.{◌≡◌, ◌↔◌, ◌+◌, ◌<◌, length, IsTrue};
 ghost use Rattle.std.specs.Option.{option_copied};
 ghost use Rattle.es5_tree.specs.Values.{find_own};
+ghost use Rattle.es5_tree.specs.Intrinsics.Valid.{Names};
+ghost use Rattle.es5_evaluation.specs.Run.{at_first};
 ghost use Rattle.es5_evaluation.specs.State.{binds, has_variable, value_in};
-ghost use Rattle.es5_objects.specs.Values.{value_if};
+ghost use Rattle.es5_objects.specs.Values.{value_if, value_of};
 ghost use Rattle.es5_store.specs.Store.{IsFull, Sound, record_of};
 
 use es5_code::NodeId;
@@ -45,6 +47,29 @@ impl Store {
     {
         let all = u64::from(self.heap.len()) + self.records.len() as u64;
         all >= AT_FIRST && all - AT_FIRST >= u64::from(self.limit)
+    }
+
+    /// Whether there are more cells than the run may make.
+    pub fn is_over(&self) -> bool
+        ensures { IsTrue result ↔ (self.now.limit + at_first < length self.now.heap.cells + length self.now.records.items) }
+    {
+        let most = AT_FIRST + u64::from(self.limit);
+        let records = self.records.len() as u64;
+        records > most || u64::from(self.heap.len()) > most - records
+    }
+}
+
+/// Whether a value names an object that is there, or none.
+pub fn is_named(heap: &ObjHeap, value: &EsValue) -> bool
+    ensures { IsTrue result → Names (length heap.now.cells) (value_of value.now) }
+{
+    match value {
+        EsValue::Obj(o) => *o < heap.len(),
+        EsValue::Undefined => true,
+        EsValue::Null => true,
+        EsValue::Bool(_) => true,
+        EsValue::Num(_) => true,
+        EsValue::Str(_) => true,
     }
 }
 

@@ -5,6 +5,7 @@ pub mod Cutting
 pub mod Slices
 pub mod Written
 pub mod Escapes
+pub mod Bare
 pub mod ObjectLinks
 pub mod ObjectProperties
 pub mod ObjectRising

@@ -1,5 +1,4 @@
-use Rattle.std.proofs.Common.{◌≡◌, ◌++◌, Some, ap, refl, ◌∙◌}
-use Rattle.es5_evaluation.specs.Evaluate.{bound_params}
+use Rattle.std.proofs.Common.{◌++◌, Some, ap, refl, ◌∙◌}
 use Rattle.es5_making.specs.Calls.{arguments_bound}
 use Rattle.es5_making.proofs.Binding.{whole_record}
 use Rattle.es5_making.proofs.activations.activation.Goals as goal

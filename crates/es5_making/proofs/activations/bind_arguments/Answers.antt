@@ -1,7 +1,4 @@
-use Rattle.std.proofs.Common.{◌≡◌, ◌∷◌, ◌++◌, [], ap, ◌∙◌, sym}
-use Rattle.es5_tree.specs.Values.{Obj}
 use Rattle.es5_host.proofs.Making.{on_ok}
-use Rattle.es5_making.specs.Calls.{arguments_bound}
 use Rattle.es5_making.proofs.Binding.{bound_object}
 use Rattle.es5_making.proofs.activations.bind_arguments.Goals as goal
 

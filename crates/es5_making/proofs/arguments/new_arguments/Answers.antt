@@ -1,11 +1,3 @@
-use Rattle.std.proofs.Common.{◌∙◌, ap, map, pos, Some}
-use Rattle.es5_tree.specs.Values.{Num}
-use Rattle.es5_tree.specs.Objects.Cells.{Arguments, new_cell, put}
-use Rattle.es5_tree.specs.Objects.Names.{length_name}
-use Rattle.es5_tree.specs.Intrinsics.Made.{object_prototype}
-use Rattle.es5_tree.specs.Intrinsics.Rows.{filled}
-use Rattle.es5_host.specs.Answers.{with_new}
-use Rattle.es5_host.proofs.Making.{made_whole}
 use Rattle.es5_making.proofs.Holding.{arguments_whole}
 use Rattle.es5_making.proofs.arguments.new_arguments.Goals as goal
 

@@ -1,7 +1,6 @@
-use Rattle.std.proofs.Common.{pos, refl}
+use Rattle.std.proofs.Common.{refl}
 use Rattle.es5_tree.specs.Values.{Num}
 use Rattle.es5_host.proofs.Making.{on_ok}
-use Rattle.es5_objects.specs.Values.{value_of}
 use Rattle.es5_making.proofs.Holding.{valid_given}
 use Rattle.es5_making.proofs.arguments.put_length.Goals as goal
 

@@ -1,4 +1,4 @@
-use Rattle.std.proofs.Common.{◌≡◌, ◌∙◌, Some, ap, slice_get, sym, true, false}
+use Rattle.std.proofs.Common.{◌∙◌, ap, slice_get, sym, true, false}
 use Rattle.es5_objects.specs.Values.{value_of}
 use Rattle.es5_making.proofs.CallSteps.{enters}
 use Rattle.es5_making.proofs.calls.enter.Goals as goal

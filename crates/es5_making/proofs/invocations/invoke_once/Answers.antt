@@ -1,8 +1,6 @@
-use Rattle.std.proofs.Common.{Ok, Err, refl, sym}
+use Rattle.std.proofs.Common.{Ok, Err, sym}
 use Rattle.es5_tree.specs.Objects.Cells as kind
 use Rattle.es5_objects.specs.Values.{value_of}
-use Rattle.es5_evaluation.specs.State.{code_at}
-use Rattle.es5_evaluation.specs.Task.{Scope}
 use Rattle.es5_making.proofs.HostSteps.{quiet_caused}
 use Rattle.es5_making.proofs.InvokeSteps.{entered_by, enter_task, host_by, no_host_by, refused_by, nowhere}
 use Rattle.es5_making.proofs.invocations.invoke_once.Goals as goal

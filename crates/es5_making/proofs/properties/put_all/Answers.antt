@@ -1,4 +1,4 @@
-use Rattle.std.proofs.Common.{◌≡◌, ◌<◌, ◌≤◌, ◌∙◌, min, length, refl, sym, subst, arith}
+use Rattle.std.proofs.Common.{◌<◌, ◌≤◌, ◌∙◌, min, length, refl, sym, subst, arith}
 use Rattle.es5_tree.specs.Objects.Links.{cell_at}
 use Rattle.es5_tree.specs.Objects.Cells.{put}
 use Rattle.es5_objects.specs.Values.{value_of}

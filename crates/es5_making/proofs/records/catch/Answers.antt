@@ -1,8 +1,6 @@
-use Rattle.std.proofs.Common.{◌≡◌, [], ◌∷◌, Some, refl, ap₂}
-use Rattle.es5_evaluation.specs.State.{Activation}
+use Rattle.std.proofs.Common.{Some, refl, ap₂}
 use Rattle.es5_objects.specs.Values.{value_of}
-use Rattle.es5_store.specs.Store.{record_of}
-use Rattle.es5_making.proofs.NewRecords.{catch_full, catch_made, catch_record}
+use Rattle.es5_making.proofs.NewRecords.{catch_full, catch_made}
 use Rattle.es5_making.proofs.records.catch.Goals as goal
 
 pub returns-then-is_full-clause-does : goal.returns-then-is_full-clause-does

@@ -1,4 +1,3 @@
-use Rattle.std.proofs.Common.{◌≡◌, OnOk}
 use Rattle.es5_host.proofs.Making.{on_ok}
 use Rattle.es5_store.proofs.ErrorObjects.{both_given, still_plain}
 use Rattle.es5_store.proofs.errors.give_both.Goals as goal

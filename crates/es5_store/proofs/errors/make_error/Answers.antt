@@ -1,4 +1,4 @@
-use Rattle.std.proofs.Common.{◌≡◌, Some, sym, ap, ◌∙◌, subst}
+use Rattle.std.proofs.Common.{Some, sym, ap, ◌∙◌, subst}
 use Rattle.es5_tree.specs.Objects.Cells.{Object, new_cell}
 use Rattle.es5_tree.specs.Intrinsics.Made.{object_prototype}
 use Rattle.es5_tree.specs.Intrinsics.Valid.{Valid}

@@ -1,4 +1,4 @@
-use Rattle.std.proofs.Common.{◌≡◌, refl}
+use Rattle.std.proofs.Common.{refl}
 use Rattle.es5_store.proofs.Walks.{raise_full, raised}
 use Rattle.es5_store.proofs.errors.raise.Goals as goal
 

@@ -14,9 +14,3 @@ returns-in-Err-clause-does g c =
     let T = c.args.table.now.nodes in
     let ρ = scope_of c.args.self.now.scope in
     acted_halt T ρ (act_task T ρ c.args.what) (rest T ρ c.args.self.now.stack) c.in-Err.halt c.args.store.now c.act.new.store (g.S.Sink.told c.args.sink.now) (g.S.Sink.told c.act.new.sink) c.in-Err.ensures.does
-
-pub returns-then-store-limit-clause-does : goal.returns-then-store-limit-clause-does
-returns-then-store-limit-clause-does g c =
-    let T = c.args.table.now.nodes in
-    let ρ = scope_of c.args.self.now.scope in
-    acted_lost T ρ (act_task T ρ c.args.what) (rest T ρ c.args.self.now.stack) c.in-Ok.effect c.args.store.now c.act.new.store (g.S.Sink.told c.args.sink.now) (g.S.Sink.told c.act.new.sink) c.in-Ok.ensures.does
