@@ -11,3 +11,4 @@ pub mod Bound
 pub mod Few
 pub mod Making
 pub mod Standing
+pub mod LeftOut

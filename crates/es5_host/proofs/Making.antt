@@ -23,7 +23,7 @@ given_none : (c : Cell) → holding c [] ≡ c
 unfolding holding
 given_none c = refl
 
-given_more : {A : Type 0} (f : A → Text × Val) (h k : Heap) (o i : ℕ) (xs : List A) (x : A) (all : Cell)
+pub given_more : {A : Type 0} (f : A → Text × Val) (h k : Heap) (o i : ℕ) (xs : List A) (x : A) (all : Cell)
     → holding (cell_at h.cells o) (map f (drop i xs)) ≡ all
     → k ≡ with_cell h o (put (cell_at h.cells o) (f x).0 (f x).1)
     → o < length h.cells → i < length xs → x ≡ get_or xs i x

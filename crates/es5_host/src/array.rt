@@ -12,7 +12,8 @@ ghost use Rattle.es5_host.specs.Answers.{Answered};
 
 use crate::answer::{HostAnswer, not_covered};
 use crate::argument::{natural_of, object_of, one_of, two_of};
-use crate::element::{elements, make_array, name_elements};
+use crate::element::{make_array, name_elements};
+use crate::present::{make_present, present};
 use crate::values::EsValues;
 use es5_objects::{EsValue, ObjHeap, decimal};
 use es5_tree::{SafeInt, word_units};
@@ -209,14 +210,10 @@ fn slice_at(alloc: Global, heap: &mut ObjHeap, o: u32, n: u32, i: u64, j: u64) -
     if !(i <= j && j <= u64::from(n)) {
         return not_covered();
     }
-    let items = match elements(alloc, heap, o, i as u32, (j - i) as u32) {
-        Ok(items) => items,
-        Err(_) => return HostAnswer::NoMemory,
-    };
-    if items.len() > MOST {
-        return HostAnswer::NoMemory;
+    match present(alloc, heap, o, i as u32, (j - i) as u32) {
+        Ok(items) => make_present(alloc, heap, &items),
+        Err(_) => HostAnswer::NoMemory,
     }
-    make_array(alloc, heap, &items)
 }
 
 // A part of a value as a new array.

@@ -1,16 +1,15 @@
 //! Elements of arrays.
 
 ghost use Rattle.std.specs.Prelude.{◌≡◌, ◌+◌, ◌<◌, ◌^◌, [], ◌∷◌, ◌++◌, length, map, Some, IfOk, OnOk, All};
-ghost use Rattle.std.specs.Option.{option_copied};
-ghost use Rattle.es5_tree.specs.Objects.Links.{cell_at, get};
+ghost use Rattle.es5_tree.specs.Objects.Links.{cell_at};
+ghost use Rattle.es5_tree.specs.Objects.Cells.{put};
 ghost use Rattle.es5_tree.specs.Objects.Names.{decimal};
 ghost use Rattle.es5_tree.specs.Values.{Str};
-ghost use Rattle.es5_tree.specs.Intrinsics.Rows.{elements, with_element, filled, array_of, Makes};
-ghost use Rattle.es5_tree.specs.Intrinsics.Valid.{Valid};
+ghost use Rattle.es5_tree.specs.Intrinsics.Rows.{with_element, filled, array_of, Makes};
+ghost use Rattle.es5_tree.specs.Intrinsics.Valid.{NamesIf, Valid};
 ghost use Rattle.es5_objects.specs.Heap.{with_cell};
 ghost use Rattle.es5_objects.specs.Values.{value_of, value_if};
 ghost use Rattle.es5_host.specs.Answers.{Answered};
-ghost use Rattle.es5_tree.specs.Intrinsics.Valid.{NamesIf};
 
 use crate::answer::HostAnswer;
 use es5_objects::{CellKind, EsText, EsValue, ObjHeap, decimal};
@@ -20,52 +19,23 @@ use std::alloc::Global;
 /// The number of `Array.prototype`.
 pub const ARRAY_PROTOTYPE: u32 = 2;
 
-// The value again, where there is one.
-fn share_if(value: Option<&EsValue>) -> Result<Option<EsValue>, NoMemory>
-    ensures { IfOk result (λ copy. value_if copy ≡ value_if (option_copied value.entry)) }
-{
-    match value {
-        Some(value) => Ok(Some(value.share()?)),
-        None => Ok(None),
-    }
-}
-
-// Puts what stands at an index of an object at the end.
-fn push_element(
+/// Puts a value at an index of an object.
+pub fn put_at(
     alloc: Global,
-    heap: &ObjHeap,
+    heap: &mut ObjHeap,
     o: u32,
-    index: u32,
-    items: &mut Vec<Option<EsValue>>,
+    i: u32,
+    value: &EsValue,
 ) -> Result<(), NoMemory>
-    requires { o < length heap.now.cells }
-    ensures { OnOk result (map value_if items.new.items ≡ map value_if items.old.items ++ get heap.now.cells o (decimal index) ∷ []) }
+    requires object { o < length heap.old.cells }
+    requires value { NamesIf (length heap.old.cells) (Some (value_of value.now)) }
+    requires valid { Valid heap.old.cells }
+    ensures put { OnOk result (heap.new ≡ with_cell heap.old o (put (cell_at heap.old.cells o) (decimal i) (value_of value.now))) }
+    ensures valid { Valid heap.new.cells }
+    ensures count { length heap.new.cells ≡ length heap.old.cells }
 {
-    let name = decimal(alloc, index)?;
-    let item = share_if(heap.get(o, &name))?;
-    match items.push(item) {
-        Ok(()) => Ok(()),
-        Err(_) => Err(NoMemory),
-    }
-}
-
-/// What stands at these indices of an object, its links included, and where nothing does.
-pub fn elements(
-    alloc: Global,
-    heap: &ObjHeap,
-    o: u32,
-    from: u32,
-    count: u32,
-) -> Result<Vec<Option<EsValue>>, NoMemory>
-    requires object { o < length heap.now.cells }
-    requires end { from + count < 2 ^ 32 }
-    ensures { IfOk result (λ items. map value_if items.items ≡ elements heap.now.cells o from count) }
-{
-    let mut items = Vec::new(alloc);
-    for i in 0..count {
-        push_element(alloc, heap, o, from + i, &mut items)?;
-    }
-    Ok(items)
+    let name = decimal(alloc, i)?;
+    heap.put(o, name, value.share()?)
 }
 
 // Puts an element at an index of an object, where there is one.
@@ -84,10 +54,7 @@ fn put_element(
     ensures count { length heap.new.cells ≡ length heap.old.cells }
 {
     match item {
-        Some(value) => {
-            let name = decimal(alloc, i)?;
-            heap.put(o, name, value.share()?)
-        }
+        Some(value) => put_at(alloc, heap, o, i, value),
         None => Ok(()),
     }
 }

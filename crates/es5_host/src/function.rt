@@ -108,11 +108,17 @@ fn value_or_undefined(heap: &ObjHeap, o: u32, name: &Units) -> Result<EsValue, N
     }
 }
 
+// A call has at most so many arguments; more are answered as want of memory before one is looked at.
+const MOST_ARGUMENTS: u32 = 1_048_576;
+
 // What an object lists at the indices below a count.
 fn listed(alloc: Global, heap: &ObjHeap, o: u32, count: u32) -> Result<EsValues, NoMemory>
     requires { o < length heap.now.cells }
     ensures { IfOk result (λ list. list ≡ map or_undefined (elements heap.now.cells o 0 count)) }
 {
+    if MOST_ARGUMENTS < count {
+        return Err(NoMemory);
+    }
     let mut list = EsValues::new(alloc);
     for i in 0..count {
         let name = decimal(alloc, i)?;

@@ -14,6 +14,7 @@ mod laws;
 mod lines;
 mod made;
 mod object;
+mod present;
 #[cfg(test)]
 mod tests;
 mod text;

@@ -3,3 +3,5 @@ pub mod Digits
 pub mod Lists
 pub mod Heaps
 pub mod Listed
+pub mod Along
+pub mod Absent

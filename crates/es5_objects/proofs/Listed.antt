@@ -32,3 +32,7 @@ indices_firsts (p ∷ ps) = rw (indices_firsts ps) refl
 pub keys_listed : (c : Cell) (names : List Text) → names ≡ firsts c.properties → map decimal (rising (filter_map index_of names)) ++ filter (is_other_name c.kind) names ≡ keys c
 unfolding keys indices other_names
 keys_listed c names e = rw (e, indices_firsts c.properties) refl
+
+pub indices_listed : (c : Cell) (names : List Text) → names ≡ firsts c.properties → filter_map index_of names ≡ indices c.properties
+unfolding indices
+indices_listed c names e = rw (e, indices_firsts c.properties) refl

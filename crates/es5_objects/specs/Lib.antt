@@ -1,3 +1,4 @@
 pub mod Values
 pub mod Properties
 pub mod Heap
+pub mod Along

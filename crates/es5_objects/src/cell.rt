@@ -1,11 +1,11 @@
-ghost use Rattle.std.specs.Prelude.{◌≡◌, IfOk, OnOk, OnErr, is_some, false};
+ghost use Rattle.std.specs.Prelude.{◌≡◌, ◌++◌, length, IfOk, OnOk, OnErr, is_some, false};
 ghost use Rattle.std.specs.Option.{option_copied};
-ghost use Rattle.es5_tree.specs.Objects.Cells.{own, put, delete, keys, new_cell, is_array_length, CanPut, IsLength, whole, with_length, with_value};
+ghost use Rattle.es5_tree.specs.Objects.Cells.{own, put, delete, indices, keys, new_cell, is_array_length, CanPut, IsLength, whole, with_length, with_value};
 ghost use Rattle.es5_tree.specs.Objects.Links.{with_link};
 ghost use Rattle.es5_objects.specs.Values.{value_of, value_if, kind_of};
 
 use crate::index::{index_of, is_length};
-use crate::keys::keys_of;
+use crate::keys::{keys_of, push_indices_of};
 use crate::kind::CellKind;
 use crate::length::ArrayLength;
 use crate::properties::Properties;
@@ -144,5 +144,19 @@ impl ObjectCell {
         ensures { IfOk result (λ names. names ≡ keys self.now) }
     {
         keys_of(alloc, self.kind, self.properties.names())
+    }
+
+    /// The number of the own properties, without the `length` of an array.
+    pub fn len(&self) -> usize
+        ensures { result ≡ length self.now.properties }
+    {
+        self.properties.len()
+    }
+
+    /// Puts the array indices among the names at the end, in the order of making.
+    pub fn push_indices(&self, found: &mut Vec<u32>) -> Result<(), NoMemory>
+        ensures { OnOk result (found.new.items ≡ found.old.items ++ indices self.now.properties) }
+    {
+        push_indices_of(found, self.properties.names())
     }
 }

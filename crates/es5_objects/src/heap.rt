@@ -1,11 +1,15 @@
-ghost use Rattle.std.specs.Prelude.{◌≡◌, ◌≤◌, ◌<◌, ◌↔◌, [], ◌∷◌, ◌++◌, length, IfOk, OnOk, OnErr, IsErr, is_err, is_some, false};
+ghost use Rattle.std.specs.Prelude.{◌≡◌, ◌≤◌, ◌<◌, ℕ, nat_lt, nat_eq, Some, None, ◌↔◌, [], ◌∷◌, ◌++◌, length, IfOk, OnOk, OnErr, IsErr, is_err, is_some, false};
 ghost use Rattle.std.specs.Option.{option_copied};
-ghost use Rattle.es5_tree.specs.Objects.Cells.{new_cell, Object, own, put, delete, keys, is_array_length, CanPut};
-ghost use Rattle.es5_tree.specs.Objects.Links.{cell_at, link_at, get, in_chain, with_link, Within, LinksWithin, NoCycle};
+ghost use Rattle.es5_tree.specs.Objects.Cells.{new_cell, Object, own, put, delete, keys, rising, is_array_length, CanPut};
+ghost use Rattle.std.specs.List.{list_any};
+ghost use Rattle.es5_tree.specs.Objects.Names.{decimal, index_end};
+ghost use Rattle.es5_objects.specs.Along.{indices_along, count_along};
+ghost use Rattle.es5_tree.specs.Objects.Links.{cell_at, link_at, chain, get, in_chain, with_link, Within, LinksWithin, NoCycle};
 ghost use Rattle.es5_objects.specs.Values.{value_of, value_if, kind_of};
 ghost use Rattle.es5_objects.specs.Heap.{with_cell};
 
 use crate::cell::ObjectCell;
+use crate::keys::sorted;
 use crate::kind::CellKind;
 use crate::value::EsValue;
 use opal_base::{Names, NoMemory, Units};
@@ -86,6 +90,47 @@ fn is_in_chain(cells: &[ObjectCell], o: u32, start: Option<u32>) -> bool
         }
     }
     false
+}
+
+// Whether an object and those along its links have more than so many properties together.
+fn has_more(cells: &[ObjectCell], o: u32, most: usize) -> bool
+    requires object { o < length cells.now }
+    requires links { LinksWithin cells.now }
+    ensures { result ≡ nat_lt most (count_along cells.now (chain cells.now (Some o))) }
+{
+    let mut at = o;
+    let mut left = most;
+    for turn in 0..cells.len() {
+        let cell = &cells[at as usize];
+        if left < cell.len() {
+            return true;
+        }
+        left -= cell.len();
+        match cell.link() {
+            Some(next) => at = next,
+            None => return false,
+        }
+    }
+    false
+}
+
+// The array indices that an object and those along its links have, in this order.
+fn indices_along(alloc: Global, cells: &[ObjectCell], o: u32) -> Result<Vec<u32>, NoMemory>
+    requires object { o < length cells.now }
+    requires links { LinksWithin cells.now }
+    ensures { IfOk result (λ found. found.items ≡ indices_along cells.now (chain cells.now (Some o))) }
+{
+    let mut found = Vec::new(alloc);
+    let mut at = o;
+    for turn in 0..cells.len() {
+        let cell = &cells[at as usize];
+        cell.push_indices(&mut found)?;
+        match cell.link() {
+            Some(next) => at = next,
+            None => return Ok(found),
+        }
+    }
+    Ok(found)
 }
 
 impl ObjHeap {
@@ -235,5 +280,24 @@ impl ObjHeap {
         let cell = &mut self.cells[o as usize];
         cell.set_link(p);
         Ok(())
+    }
+
+    /// Whether an object and those along its links have more than so many properties together, without
+    /// the `length` of arrays. It takes no memory.
+    pub fn has_more(&self, o: u32, most: usize) -> bool
+        requires { o < length self.now.cells }
+        ensures { result ≡ nat_lt most (count_along self.now.cells (chain self.now.cells (Some o))) }
+    {
+        has_more(&self.cells, o, most)
+    }
+
+    /// The array indices that an object and those along its links have, in rising order, each as often
+    /// as one of them has it. At all others `get` finds nothing.
+    pub fn indices(&self, o: u32) -> Result<Vec<u32>, NoMemory>
+        requires { o < length self.now.cells }
+        ensures rising { IfOk result (λ found. found.items ≡ rising (indices_along self.now.cells (chain self.now.cells (Some o)))) }
+        ensures others { IfOk result (λ found. (i : ℕ) → i < index_end → list_any (nat_eq i) found.items ≡ false → get self.now.cells o (decimal i) ≡ None) }
+    {
+        sorted(indices_along(self.alloc, &self.cells, o)?)
     }
 }

@@ -13,21 +13,20 @@ use crate::list::append;
 use opal_base::{Names, NoMemory, Units};
 use std::alloc::Global;
 
-// The array indices among the names, in the order of making.
-fn indices_of(alloc: Global, keys: &[Vec<u16>]) -> Result<Vec<u32>, NoMemory>
-    ensures { IfOk result (λ found. found.items ≡ filter_map index_of (names keys.now)) }
+/// Puts the array indices among the names at the end, in the order of making.
+pub fn push_indices_of(found: &mut Vec<u32>, keys: &[Vec<u16>]) -> Result<(), NoMemory>
+    ensures { OnOk result (found.new.items ≡ found.old.items ++ filter_map index_of (names keys.now)) }
 {
-    let mut found = Vec::new(alloc);
     for key in keys {
         if let Some(index) = index_of(key.as_slice()) {
-            append(&mut found, index)?;
+            append(found, index)?;
         }
     }
-    Ok(found)
+    Ok(())
 }
 
-// The numbers in rising order.
-fn sorted(numbers: Vec<u32>) -> Result<Vec<u32>, NoMemory>
+/// The numbers in rising order.
+pub fn sorted(numbers: Vec<u32>) -> Result<Vec<u32>, NoMemory>
     ensures { IfOk result (λ sorted. sorted.items ≡ rising numbers.items) }
 {
     let mut numbers = numbers;
@@ -80,7 +79,9 @@ fn push_others(list: &mut Names, kind: CellKind, keys: &[Vec<u16>]) -> Result<()
 pub fn keys_of(alloc: Global, kind: CellKind, keys: &[Vec<u16>]) -> Result<Names, NoMemory>
     ensures { IfOk result (λ list. list ≡ map decimal (rising (filter_map index_of (names keys.now))) ++ filter (is_other_name (kind_of kind)) (names keys.now)) }
 {
-    let numbers = sorted(indices_of(alloc, keys)?)?;
+    let mut found = Vec::new(alloc);
+    push_indices_of(&mut found, keys)?;
+    let numbers = sorted(found)?;
     let mut list = Names::new(alloc);
     push_indices(alloc, &mut list, &numbers)?;
     push_others(&mut list, kind, keys)?;

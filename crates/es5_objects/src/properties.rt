@@ -1,4 +1,4 @@
-ghost use Rattle.std.specs.Prelude.{◌≡◌, [], map, OnOk, OnErr};
+ghost use Rattle.std.specs.Prelude.{◌≡◌, [], length, map, OnOk, OnErr};
 ghost use Rattle.std.specs.Option.{option_copied};
 ghost use Rattle.es5_tree.specs.Values.{find_own};
 ghost use Rattle.es5_tree.specs.Objects.Cells.{with_property, without_property, elements_below, stays_below};
@@ -48,6 +48,13 @@ impl Properties {
         Properties {
             items: IndexMap::new(alloc),
         }
+    }
+
+    /// The number of properties.
+    pub fn len(&self) -> usize
+        ensures { result ≡ length self.now }
+    {
+        self.items.len()
     }
 
     /// The value of the property of this name.

@@ -4,8 +4,8 @@ use Rattle.es5_tree.specs.Objects.Names.{index_of}
 use Rattle.es5_objects.specs.Properties.{name_of, names}
 use Rattle.es5_objects.proofs.Loops.{at_step, past_end}
 use Rattle.es5_objects.proofs.Listed.{index_here, index_later, moved}
-use Rattle.es5_objects.proofs.keys.indices_of.Goals as goal
-use Rattle.es5_objects.proofs.keys.indices_of.Goals.{in-Some+in_ok-append, in_default}
+use Rattle.es5_objects.proofs.keys.push_indices_of.Goals as goal
+use Rattle.es5_objects.proofs.keys.push_indices_of.Goals.{in-Some+in_ok-append, in_default}
 
 pub loop-key-preserved : goal.loop-key-preserved
 loop-key-preserved c =
