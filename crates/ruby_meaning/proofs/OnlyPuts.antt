@@ -29,7 +29,7 @@ use Rattle.ruby_meaning.specs.declared.tree.Slot.{Slot}
 use Rattle.ruby_meaning.specs.declared.tree.Slot.TheVariants as slot
 use Rattle.ruby_meaning.specs.Scoping.Names.{Name, has}
 use Rattle.ruby_meaning.specs.Scoping.Seen.{stands_before, earlier, earlier_place, outside, refuse_if, unbuilt_at, is_underscored, name_local, parameter, called, opened, block_closed, body_closed}
-use Rattle.ruby_meaning.specs.Scoping.Walk.{Walked, walked, Walk, Part, FormPart, BasePart, plain, as_role, is_shown, is_target, is_condition, within_def, within_block, within_lambda, within_loop, within_rescue, no_targets, all, if_any, in_turn, names_in_turn, defaults_in_turn, guarded, guarded_two, branches, in_block, in_body, operator_name, setter, called_if_any, refuse_marked, is_require, is_relative, text_or_empty, is_shown_text, noted, noted_require, noted_call, names_local, resolved_call, other_call, call, one_slot, slots, rest_name, block_name, rescued, whole_list, of_base, of_kind, of_form, of_node, of_params, part, form_part, base_part, module_part, params_part}
+use Rattle.ruby_meaning.specs.Scoping.Walk.{Walked, walked, Walk, Part, FormPart, BasePart, plain, as_role, is_shown, is_target, is_condition, within_def, within_block, within_lambda, within_loop, within_rescue, no_targets, all, if_any, in_turn, names_in_turn, defaults_in_turn, guarded, guarded_two, branches, in_block, in_body, operator_name, setter, called_if_any, refuse_marked, is_require, is_relative, text_or_empty, is_shown_text, noted, noted_require, noted_call, only_name, resolved_call, call, bare_local, local_or, one_slot, slots, rest_name, block_name, rescued, whole_list, of_base, of_kind, of_form, of_node, of_params, part, form_part, base_part, module_part, params_part}
 use Rattle.ruby_meaning.specs.Scoping.Scopes.{start, or_unbuilt, own_scope_fault}
 use Rattle.ruby_meaning.specs.Scoping.Walk as walk
 use Rattle.ruby_meaning.specs.Puts.{Putting, putting, kind_putting, other, only_text, all_put, all_texts}
@@ -116,7 +116,10 @@ record PartMeets (p : Part) : Type 0 where
   pub shown : (c : Around) (s : Seen) → is_shown c.role ≡ false → is_some (p.walk c s).seen.unbuilt ≡ false → (putting (p.walk c s).made).only_puts ≡ true
   pub quoted : (c : Around) (s : Seen) → is_some p.text ≡ true → is_some (putting (p.walk c s).made).text ≡ true
 
+-- A form that is a bare name is no text, and isn't built.
 record FormMeets (f : FormPart) : Type 0 where
+  pub unnamed : is_some f.text ≡ true → f.name ≡ None
+  pub bare : (r : Role) → f.built r ≡ true → f.name ≡ None
   pub keeps : (mark : Pos) (c : Around) → Keeps (f.walk mark c)
   pub shown : (mark : Pos) (c : Around) (s : Seen) → is_shown c.role ≡ false → f.built c.role ≡ true → is_some (f.walk mark c s).seen.unbuilt ≡ false → (kind_putting (f.walk mark c s).made).only_puts ≡ true
   pub quoted : (mark : Pos) (c : Around) (s : Seen) → is_some f.text ≡ true → is_some (kind_putting (f.walk mark c s).made).text ≡ true
@@ -205,8 +208,10 @@ branches_keep q a b c d k l n s m =
 
 -- ---- forms that aren't built
 
-unbuilt_meets : (is_block : Bool) (walk : Pos → Walk Kind) → ((mark : Pos) (c : Around) → Keeps (walk mark c)) → FormMeets (record { text = None; is_block = is_block; built = λ r. false; walk = walk })
+unbuilt_meets : (is_block : Bool) (walk : Pos → Walk Kind) → ((mark : Pos) (c : Around) → Keeps (walk mark c)) → FormMeets (record { name = None; text = None; is_block = is_block; built = λ r. false; walk = walk })
 unbuilt_meets is_block walk k = record {
+  unnamed = λ e. refl;
+  bare = λ r e. refl;
   keeps = k;
   shown = λ mark c s r b e. absurd (false≢true b);
   quoted = λ mark c s e. absurd (false≢true e);
@@ -232,8 +237,10 @@ putting_made : (k : Kind) (s : Span) (m : Pos) → putting (record { kind = k; s
 unfolding kind_putting putting
 putting_made k s m = fold-roll-Node ⊤ Putting ⊤ Putting ⊤ (λ b. tt) puts.of_kind (λ f. tt) (λ n. n.kind) (λ p. tt) (record { kind = k; span = s; mark = m })
 
-str_meets : (text : Name) → FormMeets (record { text = Some text; is_block = false; built = is_shown; walk = λ mark c s. walked s (kinds.Str text) })
+str_meets : (text : Name) → FormMeets (record { name = None; text = Some text; is_block = false; built = is_shown; walk = λ mark c s. walked s (kinds.Str text) })
 str_meets text = record {
+  unnamed = λ e. refl;
+  bare = λ r e. refl;
   keeps = λ mark c s m. m;
   shown = λ mark c s r b e. absurd (false≢true (sym r ∙ b));
   quoted = λ mark c s e. ap (λ p. is_some p.text) (putting_str text);
@@ -255,8 +262,10 @@ all_shown (p ∷ ps) c s r e =
     let here = (part None p.0).walk c s in
     both_true _ _ (p.1.shown c s r (unmarked here.seen (all (parts_of ps) c here.seen).seen (all_keep ps c here.seen) e)) (all_shown ps c here.seen r e)
 
-seq_meets : (items : Parts) → FormMeets (record { text = None; is_block = false; built = λ r. true; walk = λ mark c. whole_list (λ ns. kinds.Seq ns) (parts_of items) (plain c) })
+seq_meets : (items : Parts) → FormMeets (record { name = None; text = None; is_block = false; built = λ r. true; walk = λ mark c. whole_list (λ ns. kinds.Seq ns) (parts_of items) (plain c) })
 seq_meets items = record {
+  unnamed = λ e. refl;
+  bare = λ r e. refl;
   keeps = λ mark c s m. all_keep items (plain c) s m;
   shown = λ mark c s r b e. putting_seq (all (parts_of items) (plain c) s).made ∙ all_shown items (plain c) s refl e;
   quoted = λ mark c s e. absurd (false≢true e);
@@ -291,7 +300,7 @@ module _ (arg : (n : Node) × NodeMeets n) (name : Name) (marked : Option Pos) (
   shown_arg = ((part None arg.0).walk (as_role (cond (is_shown_text None name (part None arg.0 ∷ []) None) role.Shown role.Plain) c) (noted None None name (part None arg.0 ∷ []) None marked mark c.role s)).made
 
   one_call : bytes_eq name (codes "puts") ≡ true → is_some (part None arg.0).text ≡ true → (kind_putting (call None None name (part None arg.0 ∷ []) None marked mark c s).made).only_puts ≡ true
-  unfolding call other_call names_local resolved_call
+  unfolding call resolved_call
   one_call named some =
       ap (λ b. (kind_putting (resolved_call b name (part None arg.0).text marked None (shown_arg ∷ []) None)).only_puts) (no_require name named)
       ∙ putting_call name shown_arg marked
@@ -305,16 +314,25 @@ call_shown None None name (a ∷ b ∷ args) marked mark c s e = absurd (false�
 call_shown None (Some block) name args marked mark c s e = absurd (false≢true (last_of_four true (bytes_eq name (codes "puts")) (is_some (walk.only_text (parts_of args))) false e))
 call_shown (Some receiver) block name args marked mark c s e = absurd (false≢true e)
 
+-- a call with one text has more than its name
+call_named : (receiver block : MayPart) (name : Name) (args : Parts)
+    → is_shown_text (part_if receiver) name (parts_of args) (part_if block) ≡ true → only_name (part_if receiver) name (parts_of args) (part_if block) ≡ None
+call_named None block name (arg ∷ args) e = refl
+call_named None block name [] e = absurd (false≢true (all_four true (bytes_eq name (codes "puts")) false (is_none (part_if block)) e).1)
+call_named (Some receiver) block name args e = refl
+
 call_meets : (receiver block : MayPart) (name : Name) (args : Parts) (marked : Option Pos) → FormMeets (record {
+  name = only_name (part_if receiver) name (parts_of args) (part_if block);
   text = None;
   is_block = false;
   built = λ r. is_shown_text (part_if receiver) name (parts_of args) (part_if block);
   walk = call None (part_if receiver) name (parts_of args) (part_if block) marked;
 })
-unfolding call other_call
+unfolding call
 call_meets receiver block name args marked = record {
-  keeps = λ mark c s m. marked_if (names_local (part_if receiver) name (parts_of args) (part_if block) s) _ _ (local name s m)
-      (if_keeps block (plain c) _ (all_keep args _ _ (if_keeps receiver (plain c) _ (of_noted _ _ _ _ _ _ _ _ s m))));
+  unnamed = λ e. absurd (false≢true e);
+  bare = λ r e. call_named receiver block name args e;
+  keeps = λ mark c s m. if_keeps block (plain c) _ (all_keep args _ _ (if_keeps receiver (plain c) _ (of_noted _ _ _ _ _ _ _ _ s m)));
   shown = λ mark c s r b e. call_shown receiver block name args marked mark c s b;
   quoted = λ mark c s e. absurd (false≢true e);
 }
@@ -479,20 +497,38 @@ params_meet l = subst (λ (w : Pos → Walk Params). (mark : Pos) (c : Around) �
 
 -- ---- a node
 
+local_keeps : (o : Option Name) (walk : Seen → Walked Kind) → Keeps walk → Keeps (local_or o walk)
+unfolding local_or
+local_keeps None walk k s m = k s m
+local_keeps (Some name) walk k s m = local name s m
+
+-- a form without a name of its own is no local
+no_local : (walk : Seen → Walked Kind) (name : Option Name) (span : Span) (s t : Seen) → name ≡ None → local_or (bare_local name span s) walk t ≡ walk t
+unfolding local_or bare_local
+no_local walk None span s t e = refl
+no_local walk (Some name) span s t e = let f = e in absurd cc
+
 module _ (f : FormPart) (h : FormMeets f) (span : Span) (mark : Pos) where
   abbrev node_of : Part
   node_of = of_node (record { kind = f; span = span; mark = mark })
 
-  node_shown : (b : Bool) (c : Around) (s : Seen) → is_shown c.role ≡ false → f.built c.role ≡ b
-      → is_some (f.walk mark c (cond b s (unbuilt_at span.from s))).seen.unbuilt ≡ false → (kind_putting (f.walk mark c (cond b s (unbuilt_at span.from s))).made).only_puts ≡ true
-  node_shown true c s r built e = h.shown mark c s r built e
-  node_shown false c s r built e = absurd (false≢true (sym e ∙ h.keeps mark c _ (noted_at span.from s)))
+  abbrev kind_walk : Around → Seen → Seen → Walked Kind
+  kind_walk c s = local_or (bare_local f.name span s) (f.walk mark c)
+
+  abbrev Shown : Walked Kind → Type 0
+  Shown w = is_some w.seen.unbuilt ≡ false → (kind_putting w.made).only_puts ≡ true
+
+  node_shown : (b : Bool) (c : Around) (s : Seen) → is_shown c.role ≡ false → f.built c.role ≡ b → Shown (kind_walk c s (cond b s (unbuilt_at span.from s)))
+  node_shown true c s r built = subst Shown (sym (no_local (f.walk mark c) f.name span s s (h.bare c.role built))) (h.shown mark c s r built)
+  node_shown false c s r built = λ e. absurd (false≢true (sym e ∙ local_keeps (bare_local f.name span s) (f.walk mark c) (h.keeps mark c) _ (noted_at span.from s)))
 
   of_node_meets : PartMeets node_of
   of_node_meets = record {
-    keeps = λ c s m. h.keeps mark c _ (either (f.built c.role) s _ m (noted_at span.from s));
+    keeps = λ c s m. local_keeps (bare_local f.name span s) (f.walk mark c) (h.keeps mark c) _ (either (f.built c.role) s _ m (noted_at span.from s));
     shown = λ c s r e. ap (λ p. p.only_puts) (putting_made _ span mark) ∙ node_shown (f.built c.role) c s r refl e;
-    quoted = λ c s e. ap (λ p. is_some p.text) (putting_made _ span mark) ∙ h.quoted mark c _ e;
+    quoted = λ c s e. ap (λ p. is_some p.text) (putting_made _ span mark)
+        ∙ ap (λ (w : Walked Kind). is_some (kind_putting w.made).text) (no_local (f.walk mark c) f.name span s _ (h.unnamed e))
+        ∙ h.quoted mark c _ e;
   }
 
 node_step : (x : Node-F Base Kind ModuleForm Node Params) → KindMeets x.kind → NodeMeets (roll-Node x)

@@ -99,15 +99,3 @@ impl From<NoMemory> for Stop {
         Self::NoMemory
     }
 }
-
-#[cfg(test)]
-mod tests {
-    use super::*;
-
-    #[test]
-    fn names_are_those_of_the_variants(rt: HostRuntime) {
-        for (construct, name) in [(Construct::Syntax, "Syntax"), (Construct::NotYet, "NotYet")] {
-            assert_eq!(rt; construct.name(), name);
-        }
-    }
-}

@@ -3,7 +3,7 @@ ghost use Rattle.ruby_meaning.specs.Scoping.Names.{has, with_name};
 
 use crate::construct::Construct;
 use crate::tree::Program;
-use indexmap::IndexSet;
+use name_set::NameSet;
 use opal_base::{Names, NoMemory, Pos, Units};
 use sqlite_items::Items;
 use std::alloc::Global;
@@ -60,18 +60,18 @@ pub struct Refusal {
 #[derive(Drop)]
 pub struct NameList {
     names: Names,
-    // The same names, by which they are looked up.
-    index: IndexSet<Vec<u16>>,
+    // The same names, by which they are looked up; none once memory was short.
+    set: Option<NameSet>,
 }
 
 impl Model for NameList {
-    ghost use Rattle.std.specs.Prelude.{◌≡◌, List, ℕ, map};
+    ghost use Rattle.std.specs.Prelude.{◌≡◌, List, ℕ, IfSome};
 
     ghost Value = { List (List ℕ) };
 
     ghost view = { λ list. list.names };
 
-    ghost invariant = { λ list. list.names ≡ map (λ key. key.items) list.index.keys };
+    ghost invariant = { λ list. IfSome list.set (λ set. set ≡ list.names) };
 }
 
 impl NameList {
@@ -81,15 +81,19 @@ impl NameList {
     {
         NameList {
             names: Names::new(alloc),
-            index: IndexSet::new(alloc),
+            set: Some(NameSet::new(alloc)),
         }
     }
 
     /// Whether a name is among them.
+    #[tactic(auto, using(crate::proofs::Scoping::Listing::found))]
     pub fn contains(&self, name: &[u16]) -> bool
         ensures { result ≡ has self.now name.now }
     {
-        self.index.contains(name)
+        match &self.set {
+            Some(set) => set.contains(name),
+            None => is_listed(&self.names, name),
+        }
     }
 
     /// Puts a name at the end, if it isn't among them. Where no memory is found, nothing changes.
@@ -110,19 +114,15 @@ impl NameList {
         ensures ok { OnOk result (self.new ≡ self.old ++ name.now ∷ []) }
         ensures err { OnErr result (self.new ≡ self.old) }
     {
-        let key = match Vec::from_slice(*self.index.allocator(), name.as_slice()) {
-            Ok(key) => key,
-            Err(_) => return Err(NoMemory),
-        };
         let copy = name.try_clone()?;
-        match self.index.reserve(1) {
-            Ok(()) => {}
-            Err(_) => return Err(NoMemory),
-        }
-        self.names.push(copy)?;
-        match self.index.insert(key) {
-            Ok(_) => Ok(()),
-            Err(_) => Err(NoMemory),
+        match self.set.take() {
+            Some(mut set) => {
+                set.insert(name)?;
+                self.names.push(copy)?;
+                self.set = Some(set);
+                Ok(())
+            }
+            None => self.names.push(copy),
         }
     }
 
@@ -130,9 +130,22 @@ impl NameList {
     pub fn into_names(self) -> Names
         ensures { result ≡ self }
     {
-        let NameList { names, index: _ } = self;
+        let NameList { names, set: _ } = self;
         names
     }
+}
+
+// Whether a name is in a list.
+#[tactic(auto, using(crate::proofs::Scoping::Lists::drop_at), unfolding(crate::specs::Scoping::Names::has))]
+fn is_listed(names: &Names, name: &[u16]) -> bool
+    ensures { result ≡ has names.now name.now }
+{
+    for i in 0..names.len() {
+        if names.at(i).as_slice() == name {
+            return true;
+        }
+    }
+    false
 }
 
 /// What a node is to the form that holds it.

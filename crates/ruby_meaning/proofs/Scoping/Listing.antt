@@ -1,21 +1,17 @@
--- The names of a list in its index.
-use Rattle.std.proofs.Common.{◌≡◌, refl, List, [], ◌∷◌, ◌++◌, map}
+-- The names of a list in its set.
+use Rattle.std.proofs.Common.{◌≡◌, refl, List, [], ◌∷◌, ◌++◌}
 use Rattle.std.specs.Prelude.{false, bytes_eq}
 use Rattle.std.specs.List.{list_any}
 use Rattle.std.proofs.lemmas.Cmp.{nat_list_eq_equiv}
-use Rattle.std.proofs.lemmas.List.{map-append}
-use Rattle.indexmap.specs.IndexSet.{insert_key}
+use Rattle.name_set.specs.Names.{with_new}
 use Rattle.ruby_meaning.specs.Scoping.Names.{Name, has}
 
--- a key is found where its name is among the names
-pub found : {K : Type 0} (units : K → Name) (name : Name) (keys : List K)
-    → list_any (λ k. bytes_eq name (units k)) keys ≡ has (map units keys) name
+-- a set asks whether the name is a member, a list whether a member is the name
+pub found : (name : Name) (names : List Name) → list_any (bytes_eq name) names ≡ has names name
 unfolding has
-found units name [] = refl
-found units name (k ∷ ks) = rw (nat_list_eq_equiv.symm name (units k), found units name ks) refl
+found name [] = refl
+found name (n ∷ ns) = rw (nat_list_eq_equiv.symm name n, found name ns) refl
 
--- a key whose name is not among the names comes last, as its name does
-pub comes_last : {K : Type 0} (units : K → Name) (key : K) (keys : List K)
-    → has (map units keys) (units key) ≡ false
-    → map units (insert_key (λ j k. bytes_eq (units j) (units k)) keys key) ≡ map units keys ++ units key ∷ []
-comes_last units key keys e = rw (found units (units key) keys, e) (map-append units keys (key ∷ []))
+-- a name that is new to a set comes last
+pub comes_last : (name : Name) (names : List Name) → has names name ≡ false → with_new names name names ≡ names ++ name ∷ []
+comes_last name names e = rw (found name names, e) refl

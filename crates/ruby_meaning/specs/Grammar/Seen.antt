@@ -52,9 +52,14 @@ abbrev pub ends_in_dot : List Token → Bool
 ends_in_dot (last ∷ before) = is_dot last.kind
 ends_in_dot [] = false
 
--- a `(` directly behind it opens the arguments of a call
+abbrev pub is_open : TokenKind → Bool
+is_open (kind.Op mark.ParenOpen) = true
+is_open _ = false
+
+-- A `(` directly behind it opens the arguments of a call: behind a name, a `.`, or what a method is named by. The `(` of
+-- `.(` names none, so that a value begins behind it.
 unfoldable pub opens_call : List Token → Bool
-opens_call (last ∷ before) = is_callee last.kind || ends_in_dot before
+opens_call (last ∷ before) = is_callee last.kind || (ends_in_dot before && not (is_open last.kind))
 opens_call [] = false
 
 abbrev pub is_argument_mark : Mark → Bool

@@ -1,7 +1,8 @@
 -- The walk over a tree in the order of the text: what each form says to the text behind it, what is refused, and the
 -- form in which bare names of locals and calls of `require` are told apart from other calls.
-use Rattle.std.specs.Prelude.{ℕ, Bool, true, false, not, ◌&&◌, ◌||◌, if◌then◌else◌, is_some, is_none, List, [], ◌∷◌, ◌++◌, Option, Some, None, codes, bytes_eq}
+use Rattle.std.specs.Prelude.{ℕ, ◌+◌, ◌==◌, Bool, true, false, not, ◌&&◌, ◌||◌, if◌then◌else◌, is_some, is_none, List, [], ◌∷◌, ◌++◌, length, Option, Some, None, codes, bytes_eq}
 use Rattle.opal_base.specs.declared.place.Pos.{Pos}
+use Rattle.opal_base.specs.declared.place.Span.{Span}
 use Rattle.ruby_meaning.specs.declared.construct.Construct.TheVariants as construct
 use Rattle.ruby_meaning.specs.declared.scope.Around.{Around}
 use Rattle.ruby_meaning.specs.declared.scope.Role.{Role}
@@ -102,8 +103,9 @@ pub record Part : Type 0 where
   pub is_block : Bool
   pub walk : Walk Node
 
--- a form: whether it is built, at its role, and its walk at its mark
+-- a form: the name of a call that has nothing but its name, whether it is built, at its role, and its walk at its mark
 pub record FormPart : Type 0 where
+  pub name : Option Name
   pub text : Option Name
   pub is_block : Bool
   pub built : Role → Bool
@@ -254,9 +256,9 @@ noted below receiver name args block marked mark r s =
     if is_none receiver && is_require name then noted_require below name args block marked mark s
     else noted_call (is_none receiver) name args block marked mark r s
 
--- a call without receiver, arguments and block that has the name of a local
-unfoldable pub names_local : Option Part → Name → List Part → Option Part → Seen → Bool
-names_local receiver name args block s = is_none receiver && is_empty args && is_none block && is_local s name
+-- the name of a call without receiver, arguments and block
+abbrev pub only_name : Option Part → Name → List Part → Option Part → Option Name
+only_name receiver name args block = if is_none receiver && is_empty args && is_none block then Some name else None
 
 -- the text of a `require`, and that of any other argument is empty
 abbrev pub text_or_empty : Option Name → Name
@@ -269,19 +271,30 @@ resolved_call requires name text marked receiver args block =
     if requires then kinds.Require (required_name (is_relative name) (text_or_empty text)) (is_relative name)
     else kinds.Call receiver name args block marked
 
--- a call that isn't the name of a local
-unfoldable pub other_call : Option ℕ → Option Part → Name → List Part → Option Part → Option Pos → Pos → Walk Kind
-other_call below receiver name args block marked mark c s =
+-- a call that isn't the bare name of a local
+unfoldable pub call : Option ℕ → Option Part → Name → List Part → Option Part → Option Pos → Pos → Walk Kind
+call below receiver name args block marked mark c s =
     three (resolved_call (is_none receiver && is_require name) name (only_text args) marked)
     (if_any receiver (plain c))
     (all args (as_role (if is_shown_text receiver name args block then role.Shown else role.Plain) c))
     (if_any block (plain c))
     (noted below receiver name args block marked mark c.role s)
 
-unfoldable pub call : Option ℕ → Option Part → Name → List Part → Option Part → Option Pos → Pos → Walk Kind
-call below receiver name args block marked mark c s =
-    if names_local receiver name args block s then walked (name_local name s) (kinds.LocalGet name)
-    else other_call below receiver name args block marked mark c s
+-- ---- bare names
+
+-- A node is its name alone where it is as long as the name: `x`, and not `x()`.
+abbrev pub spans_name : Span → Name → Bool
+spans_name span name = (span.from.line == span.to.line) && (span.to.col == span.from.col + length name)
+
+-- the local that a node with such a span is the bare name of
+unfoldable pub bare_local : Option Name → Span → Seen → Option Name
+bare_local None span s = None
+bare_local (Some name) span s = if spans_name span name && is_local s name then Some name else None
+
+-- the value of a local, or else another form
+unfoldable pub local_or : Option Name → (Seen → Walked Kind) → Seen → Walked Kind
+local_or None walk s = walk s
+local_or (Some name) walk s = walked (name_local name s) (kinds.LocalGet name)
 
 -- ---- parameters
 
@@ -314,7 +327,7 @@ of_params p mark c s =
 -- ---- the forms
 
 abbrev pub unbuilt : (Pos → Walk Kind) → FormPart
-unbuilt walk = record { text = None; is_block = false; built = λ r. false; walk = walk }
+unbuilt walk = record { name = None; text = None; is_block = false; built = λ r. false; walk = walk }
 
 abbrev pub nothing : Kind → FormPart
 nothing kind = unbuilt (λ mark c s. walked s kind)
@@ -408,7 +421,7 @@ abbrev pub of_kind : Option ℕ → Folded → FormPart
 of_kind below (Kind-F.Lit which) = nothing (kinds.Lit which)
 of_kind below Kind-F.SelfRef = nothing kinds.SelfRef
 of_kind below (Kind-F.Int value) = nothing (kinds.Int value)
-of_kind below (Kind-F.Str units) = record { text = Some units; is_block = false; built = is_shown; walk = λ mark c s. walked s (kinds.Str units) }
+of_kind below (Kind-F.Str units) = record { name = None; text = Some units; is_block = false; built = is_shown; walk = λ mark c s. walked s (kinds.Str units) }
 of_kind below (Kind-F.Interp parts) = unbuilt (λ mark c. whole_list (λ ns. kinds.Interp ns) parts (plain c))
 of_kind below (Kind-F.ArrayLit items) = unbuilt (λ mark c. whole_list (λ ns. kinds.ArrayLit ns) items (plain c))
 of_kind below (Kind-F.HashLit keys values) = unbuilt (λ mark c s. onto (λ r. kinds.HashLit r.0 r.1) (in_turn keys values (plain c) s))
@@ -429,11 +442,11 @@ of_kind below (Kind-F.MultiSet targets value) =
 of_kind below (Kind-F.AttrSet receiver name args value) = unbuilt (λ mark. attr_set receiver name args value)
 of_kind below (Kind-F.AttrOpSet receiver name args op value) = unbuilt (λ mark. attr_op_set receiver name args op value)
 of_kind below (Kind-F.Call receiver name args block marked) =
-    record { text = None; is_block = false; built = λ r. is_shown_text receiver name args block; walk = call below receiver name args block marked }
+    record { name = only_name receiver name args block; text = None; is_block = false; built = λ r. is_shown_text receiver name args block; walk = call below receiver name args block marked }
 of_kind below (Kind-F.Super args block) = unbuilt (super args block)
 of_kind below (Kind-F.Yield args) =
     unbuilt (λ mark c s. whole_list (λ ns. kinds.Yield ns) args (plain c) (refuse_if (not c.in_def) mark construct.JumpOutside s))
-of_kind below (Kind-F.Block params body) = record { text = None; is_block = true; built = λ r. false; walk = block params body }
+of_kind below (Kind-F.Block params body) = record { name = None; text = None; is_block = true; built = λ r. false; walk = block params body }
 of_kind below (Kind-F.BlockPass value) = unbuilt (λ mark c. whole (λ n. kinds.BlockPass n) value (plain c))
 of_kind below (Kind-F.Lambda params body) = unbuilt (lambda params body)
 of_kind below (Kind-F.Splat value) = unbuilt (λ mark c. whole (λ n. kinds.Splat n) value (if is_target c.role then c else plain c))
@@ -456,7 +469,7 @@ of_kind below (Kind-F.ModuleDef form name body) = unbuilt (module_def form name 
 of_kind below (Kind-F.Alias new old) = nothing (kinds.Alias new old)
 of_kind below (Kind-F.Undef names) = nothing (kinds.Undef names)
 of_kind below (Kind-F.Seq items) =
-    record { text = None; is_block = false; built = λ r. true; walk = λ mark c. whole_list (λ ns. kinds.Seq ns) items (plain c) }
+    record { name = None; text = None; is_block = false; built = λ r. true; walk = λ mark c. whole_list (λ ns. kinds.Seq ns) items (plain c) }
 of_kind below (Kind-F.Require name relative) = nothing (kinds.Require name relative)
 of_kind below (Kind-F.Prim name args) = unbuilt (λ mark c. whole_list (λ ns. kinds.Prim name ns) args (plain c))
 
@@ -466,7 +479,7 @@ of_node n = record {
   text = n.kind.text;
   is_block = n.kind.is_block;
   walk = λ c s. onto (λ k. record { kind = k; span = n.span; mark = n.mark })
-      (n.kind.walk n.mark c (if n.kind.built c.role then s else unbuilt_at n.span.from s));
+      (local_or (bare_local n.kind.name n.span s) (n.kind.walk n.mark c) (if n.kind.built c.role then s else unbuilt_at n.span.from s));
 }
 
 -- The same fold at each type of the tree. `below` says how many directories the file's one is below the base, where

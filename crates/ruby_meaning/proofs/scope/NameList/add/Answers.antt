@@ -1,18 +1,17 @@
-use Rattle.std.proofs.Common.{◌≡◌, ℕ, false, arith, sym, refl, ◌∙◌, map, Vec, Global}
-use Rattle.ruby_meaning.specs.Scoping.Names.{Name, has}
+use Rattle.std.proofs.Common.{◌≡◌, ◌++◌, [], ◌∷◌, sym, ap, ◌∙◌, subst}
+use Rattle.std.specs.Prelude.{Some, IfSome}
+use Rattle.name_set.specs.Names.{with_new}
+use Rattle.ruby_meaning.specs.Scoping.Names.{has}
 use Rattle.ruby_meaning.proofs.Scoping.Listing.{comes_last}
 use Rattle.ruby_meaning.proofs.scope.NameList.add.Goals as goal
-use Rattle.ruby_meaning.proofs.scope.NameList.add.Goals.{in-Ok-insert, in-Err-insert}
 
-abbrev items : Vec ℕ Global → Name
-items key = key.items
-
-pub invariant_of-self-2 : goal.invariant_of-self-2
-invariant_of-self-2 c = elim c.match-insert.branch [
-  | in-Ok-insert w ↦
-      let same : c.in-Ok.key.items ≡ c.in_ok-copy.copy = c.in-Ok.ensures.items ∙ c.as_slice.ensures ∙ sym c.in_ok-copy.ensures in
-      let absent : has (map items c.self.inside.index.keys) (items c.in-Ok.key) ≡ false =
-      rw (← c.self.invariant, c.in-Ok.ensures.items, c.as_slice.ensures, c.self.view_is) c.requires in
-      rw (c.in_ok-push.ensures.ok, w.in-Ok-insert.ensures.keys, c.in-Ok-reserve.ensures.keys, comes_last items c.in-Ok.key c.self.inside.index.keys absent, ← same, ← c.self.invariant) refl
-  | in-Err-insert w ↦ let full = w.in-Err-insert.ensures.succeeds in let room = c.in-Ok-reserve.ensures.ok in grind arith
-]
+-- the set has the names before and the new one, as the list
+pub invariant_of-self-in-Some : goal.invariant_of-self-in-Some
+invariant_of-self-in-Some c =
+    let taken : c.self.inside.set ≡ Some c.in-Some.set = sym c.take.ensures.value ∙ c.in-Some.is in
+    let same : c.in-Some.set ≡ c.self.inside.names = subst (λ set. IfSome set (λ s. s ≡ c.self.inside.names)) taken c.self.invariant in
+    let new : with_new c.self.inside.names c.args.name.now c.self.inside.names ≡ c.self.inside.names ++ c.args.name.now ∷ [] =
+    comes_last c.args.name.now c.self.inside.names (ap (λ ns. has ns c.args.name.now) c.self.view_is ∙ c.requires) in
+    c.in_ok-insert-in-Some.ensures.names
+    ∙ ap (λ ns. with_new ns c.args.name.now ns) same
+    ∙ (new ∙ (ap (λ n. c.self.inside.names ++ n ∷ []) (sym c.in_ok-copy.ensures) ∙ sym c.in_ok-push-in-Some.ensures.ok))
