@@ -1,5 +1,5 @@
--- Further programs, computed: what the papers' rules say of one thing each.
-use Rattle.std.specs.Prelude.{◌≡◌, [], ◌∷◌, codes, refl, Some, None, true, false, negsuc}
+-- Further programs, computed: what the rules say of one thing each.
+use Rattle.std.specs.Prelude.{◌≡◌, [], ◌∷◌, codes, refl, Some, None, true, false, pos, negsuc}
 use denote.Hole.Carrier
 use Rattle.ruby_meaning.specs.declared.tree.Base.TheBlock
 use Rattle.ruby_meaning.specs.Run.{Finished, Uncaught}
@@ -204,3 +204,17 @@ relative = refl
 input : told (outcome (seq []) (record { main = codes "main.rb"; files = (codes "main.rb", seq (write_int (prim (codes "s_len") (prim (codes "line") ([]) ∷ [])) ∷ write (prim (codes "line") ([])) ∷ if_ (prim (codes "line") ([])) (write (str (codes "more"))) (write (str (codes "end"))) ∷ [])) ∷ [] }) (codes "ab\ncd") 700) ≡ Ended (codes "end" ∷ codes "cd" ∷ codes "3" ∷ []) Finished
 unfolding outcome eval_to out-Kind out-Params out-Base out-ModuleForm Carrier.out Carrier.shown Carrier.hidden TheBlock.shown-the_row-Node-2 roll-Params Carrier.roll decimal
 input = refl
+
+-- a block in the default of a parameter doesn't see the parameters behind it: `def f(a = proc { b = 1 }, b = 2)`
+in_default : runs core (node (kinds.Def None (codes "f") (roll-Params (record { plain = []; optional = codes "a" ∷ codes "b" ∷ []; defaults = node_at 5 (kinds.Call None (codes "proc") [] (Some (block_at 4 [] (set 4 (codes "b") (int 1)))) None) ∷ int 2 ∷ []; rest = rest.None; after = []; block = None })) (seq (call (get (codes "a")) (codes "call") [] ∷ write_int (get (codes "b")) ∷ [])))
+    ∷ own_call (codes "f") []
+    ∷ []) 700 ≡ Ended (codes "2" ∷ []) Finished
+unfolding outcome eval_to out-Kind out-Params out-Base out-ModuleForm Carrier.out Carrier.shown Carrier.hidden TheBlock.shown-the_row-Node-2 roll-Params Carrier.roll decimal
+in_default = refl
+
+-- and one in a later default sees those before: `def f(b = 2, a = proc { b = 1 })`
+in_later_default : runs core (node (kinds.Def None (codes "f") (roll-Params (record { plain = []; optional = codes "b" ∷ codes "a" ∷ []; defaults = node_at 1 (kinds.Int (pos 2)) ∷ node_at 5 (kinds.Call None (codes "proc") [] (Some (block_at 4 [] (set 4 (codes "b") (int 1)))) None) ∷ []; rest = rest.None; after = []; block = None })) (seq (call (get (codes "a")) (codes "call") [] ∷ write_int (get (codes "b")) ∷ [])))
+    ∷ own_call (codes "f") []
+    ∷ []) 700 ≡ Ended (codes "1" ∷ []) Finished
+unfolding outcome eval_to out-Kind out-Params out-Base out-ModuleForm Carrier.out Carrier.shown Carrier.hidden TheBlock.shown-the_row-Node-2 roll-Params Carrier.roll decimal
+in_later_default = refl

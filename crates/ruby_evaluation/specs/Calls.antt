@@ -10,7 +10,7 @@ use Rattle.ruby_evaluation.specs.State.{Method, Entry, Def, Reader, Writer, Unde
 use Rattle.ruby_evaluation.specs.Ancestors.{find, find_behind}
 use Rattle.ruby_evaluation.specs.Task.{BreakLoop, Break, Next, Return, Raise, Again, Result, Val, Leaves, Place, Task, Done, Look, Change, ◌>>=◌, gives, run_node}
 use Rattle.ruby_evaluation.specs.Texts.{wrong_kind, frozen, jump_error, no_method}
-use Rattle.ruby_evaluation.specs.Locals.{Declared, declared, declared_in_defaults, parameter_names, placed, all_nil, own_of_block, or_nil}
+use Rattle.ruby_evaluation.specs.Locals.{Declared, declared, declared_in_defaults, parameter_places, all_nil, own_of_block, or_nil}
 use Rattle.ruby_evaluation.specs.Parameters.{first_of, others, takes, expected, wrong_number, is_wide, spread_one, bind}
 
 -- ---- instance variables
@@ -46,7 +46,7 @@ abbrev pub start : Pos
 start = record { line = 0; col = 0 }
 
 abbrev pub own_of_method : Params → Node → Declared
-own_of_method params body = placed start (parameter_names params) ++ declared_in_defaults params ++ declared body
+own_of_method params body = parameter_places start params ++ declared_in_defaults params ++ declared body
 
 abbrev pub method_frame : Method → Value → Value → ℕ → Frame
 method_frame m v block k =
