@@ -2,7 +2,5 @@
 #![tactic(auto)]
 
 mod bundle;
-#[cfg(test)]
-mod tests;
 
 pub use bundle::{LoadFault, load};

@@ -3,11 +3,7 @@
 
 mod pass;
 mod payload;
-#[cfg(test)]
-mod rows;
 mod spot;
 mod stand;
-#[cfg(test)]
-mod tests;
 
 pub use pass::lex;

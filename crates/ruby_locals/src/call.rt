@@ -1,16 +1,17 @@
 //! What a call says before its parts do.
 
 ghost use Rattle.std.specs.Prelude.{◌≡◌, ◌++◌, ◌||◌, ◌&&◌, not, is_none, map, OnOk, IfOk, None, codes, if◌then◌else◌};
-ghost use Rattle.std.specs.Option.{option_map};
+ghost use Rattle.std.specs.Option.{option_map, option_copied};
 ghost use Rattle.ruby_meaning.specs.Scoping.Walk as spec;
-ghost use Rattle.ruby_meaning.specs.Scoping.Seen.{called};
+ghost use Rattle.ruby_meaning.specs.Scoping.Seen.{called, name_local};
 ghost use Rattle.ruby_meaning.specs.Scoping.Requires.{required_name};
 ghost use Rattle.ruby_meaning.specs.declared.tree.Kind.TheVariants as kinds;
 
 use crate::around::is_target;
+use crate::copy::node_like;
 use crate::path::{names_file, required_name};
-use crate::seen::{called, is_local, refuse_if};
-use crate::shape::{is_literal_block, only_text};
+use crate::seen::{called, is_local, name_local, refuse_if};
+use crate::shape::{has_none, is_literal_block, only_name, only_text, spans_name};
 use crate::word::{is_eval, is_inner_eval, names_lambda, names_relative, names_require};
 use opal_base::{NoMemory, Pos, Units};
 use ruby_meaning::{Construct, Kind, Node, Operator, Role, Seen};
@@ -91,16 +92,6 @@ fn note_require(
     Ok(())
 }
 
-/// Whether there are no arguments.
-fn has_none(args: &Items<Node>) -> bool
-    ensures { result ≡ spec.is_empty (map (spec.part None) args.now) }
-{
-    match args.as_slice() {
-        [] => true,
-        [_, ..] => false,
-    }
-}
-
 fn evaluates(alone: bool, name: &Units, args: &Items<Node>) -> bool
     ensures { result ≡ spec.is_eval alone name.now (map (spec.part None) args.now) }
 {
@@ -141,18 +132,31 @@ fn note_call(
     Ok(())
 }
 
-/// Whether a call is the name of a local.
-#[tactic(auto, unfolding(ruby_meaning::specs::Scoping::Walk::names_local))]
-pub fn names_local(
-    seen: &Seen,
-    receiver: &Option<Boxed<Node>>,
-    name: &Units,
-    args: &Items<Node>,
-    block: &Option<Boxed<Node>>,
-) -> bool
-    ensures { result ≡ spec.names_local (option_map (spec.part None) receiver.now) name.now (map (spec.part None) args.now) (option_map (spec.part None) block.now) seen.now }
+/// The local that a node is the bare name of: the node is no longer than the name, as that of `x()`
+/// is.
+#[tactic(auto, unfolding(ruby_meaning::specs::Scoping::Walk::bare_local))]
+pub fn bare_local<'n>(seen: &Seen, node: &'n Node) -> Option<&'n Units>
+    ensures { option_copied result ≡ spec.bare_local (spec.form_part None node.now.kind).name node.now.span seen.now }
 {
-    receiver.is_none() && has_none(args) && block.is_none() && is_local(seen, name)
+    match only_name(node.kind.get()) {
+        Some(name) if spans_name(node.span, name) && is_local(seen, name) => Some(name),
+        _ => None,
+    }
+}
+
+/// A node that is the bare name of a local.
+pub fn local_node(
+    alloc: Global,
+    seen: &mut Seen,
+    name: &Units,
+    node: &Node,
+) -> Result<Node, NoMemory>
+    ensures seen { OnOk result (seen.new ≡ name_local name.now seen.old) }
+    ensures made { IfOk result (λ made. made ≡ record { kind = kinds.LocalGet name.now; span = node.now.span; mark = node.now.mark }) }
+{
+    name_local(seen, name)?;
+    let kind = Kind::LocalGet(name.try_clone()?);
+    node_like(alloc, kind, node)
 }
 
 // Whether a call is a `require` or a `require_relative` without receiver.

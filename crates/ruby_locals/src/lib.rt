@@ -14,6 +14,4 @@ mod path;
 pub mod scope;
 pub mod seen;
 pub mod shape;
-#[cfg(test)]
-mod tests;
 mod word;

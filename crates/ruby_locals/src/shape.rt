@@ -7,7 +7,7 @@ ghost use Rattle.ruby_meaning.specs.declared.scope.Role.TheVariants as role;
 
 use crate::around::is_shown;
 use crate::word::names_puts;
-use opal_base::Units;
+use opal_base::{Span, Units};
 use ruby_meaning::{Base, Kind, Node, Role};
 use sqlite_items::{Boxed, Items};
 
@@ -117,6 +117,101 @@ pub(crate) fn is_block(kind: &Kind) -> bool
         | Kind::Require { .. }
         | Kind::Prim { .. } => false,
     }
+}
+
+/// Whether there are no arguments.
+pub(crate) fn has_none(args: &Items<Node>) -> bool
+    ensures { result ≡ spec.is_empty (map (spec.part None) args.now) }
+{
+    match args.as_slice() {
+        [] => true,
+        [_, ..] => false,
+    }
+}
+
+// The name of a call without receiver, arguments and block.
+fn name_alone<'n>(
+    receiver: &Option<Boxed<Node>>,
+    name: &'n Units,
+    args: &Items<Node>,
+    block: &Option<Boxed<Node>>,
+) -> Option<&'n Units>
+    ensures { option_copied result ≡ spec.only_name (option_map (spec.part None) receiver.now) name.now (map (spec.part None) args.now) (option_map (spec.part None) block.now) }
+{
+    if receiver.is_none() && has_none(args) && block.is_none() {
+        Some(name)
+    } else {
+        None
+    }
+}
+
+/// The name of a form that is a call and has nothing but its name.
+#[tactic(auto, unfolding(ruby_meaning::specs::Scoping::Walk::part, ruby_meaning::specs::Scoping::Walk::form_part))]
+pub(crate) fn only_name(kind: &Kind) -> Option<&Units>
+    ensures { option_copied result ≡ (spec.form_part None kind.now).name }
+{
+    match kind {
+        Kind::Call {
+            receiver,
+            name,
+            args,
+            block,
+            ..
+        } => name_alone(receiver, name, args, block),
+        Kind::Lit(_)
+        | Kind::SelfRef
+        | Kind::Int(_)
+        | Kind::Str(_)
+        | Kind::Interp(_)
+        | Kind::ArrayLit(_)
+        | Kind::HashLit { .. }
+        | Kind::RangeLit { .. }
+        | Kind::LocalGet(_)
+        | Kind::IvarGet(_)
+        | Kind::GlobalGet(_)
+        | Kind::ConstGet { .. }
+        | Kind::LocalSet(..)
+        | Kind::IvarSet(..)
+        | Kind::GlobalSet(..)
+        | Kind::ConstSet(..)
+        | Kind::MultiSet { .. }
+        | Kind::AttrSet { .. }
+        | Kind::AttrOpSet { .. }
+        | Kind::Super { .. }
+        | Kind::Yield(_)
+        | Kind::Block { .. }
+        | Kind::BlockPass(_)
+        | Kind::Lambda { .. }
+        | Kind::Splat(_)
+        | Kind::Not(_)
+        | Kind::And(..)
+        | Kind::Or(..)
+        | Kind::If { .. }
+        | Kind::While { .. }
+        | Kind::Case { .. }
+        | Kind::When { .. }
+        | Kind::Begin { .. }
+        | Kind::Rescue { .. }
+        | Kind::Retry
+        | Kind::Reraise
+        | Kind::Jump(..)
+        | Kind::Def { .. }
+        | Kind::ModuleDef { .. }
+        | Kind::Alias { .. }
+        | Kind::Undef(_)
+        | Kind::Seq(_)
+        | Kind::Require { .. }
+        | Kind::Prim { .. } => None,
+    }
+}
+
+/// Whether a span is as long as a name.
+pub(crate) fn spans_name(span: Span, name: &Units) -> bool
+    ensures { result ≡ spec.spans_name span name.now }
+{
+    span.from.line == span.to.line
+        && span.from.col <= span.to.col
+        && (span.to.col - span.from.col) as usize == name.len()
 }
 
 /// The text that is the only argument.

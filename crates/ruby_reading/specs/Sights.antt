@@ -7,7 +7,7 @@ use Rattle.ruby_meaning.specs.declared.token.Mark.{Mark}
 use Rattle.ruby_meaning.specs.declared.token.Token.{Token}
 use Rattle.ruby_meaning.specs.declared.token.TokenKind.{TokenKind}
 use Rattle.ruby_meaning.specs.declared.token.TokenKind.TheVariants as kind
-use Rattle.ruby_meaning.specs.Grammar.Seen.{is_dot, is_def, is_alias, is_name, is_callee, is_argument_mark, is_paren}
+use Rattle.ruby_meaning.specs.Grammar.Seen.{is_dot, is_def, is_alias, is_name, is_callee, is_open, is_argument_mark, is_paren}
 use Rattle.ruby_reading.specs.declared.sight.Before.{Before}
 
 -- the last four, from the last one back
@@ -42,7 +42,7 @@ abbrev pub takes : Window → Bool
 takes w = holds is_name w.0 && not (gives (w.1.0) (w.1.1.1))
 
 abbrev pub opens : Window → Bool
-opens w = holds is_callee w.0 || holds is_dot (w.1.0)
+opens w = holds is_callee w.0 || (holds is_dot (w.1.0) && not (holds is_open w.0))
 
 -- whether it opens the arguments of a call or begins an argument hangs on these two
 abbrev pub sign_of_op : Bool → Bool → Token → Mark → Sign

@@ -115,11 +115,20 @@ fn takes_arguments(before: Before<'_>) -> bool
     is_name(before.last) && !gives_name(before.second, before.fourth)
 }
 
+fn is_open(token: Option<&Token>) -> bool
+    ensures { result ≡ spec.holds seen.is_open (option_copied token.entry) }
+{
+    match token {
+        Some(token) => matches!(token.kind, TokenKind::Op(Mark::ParenOpen)),
+        None => false,
+    }
+}
+
 /// Whether a `(` that stands directly behind opens the arguments of a call.
 fn opens_call(before: Before<'_>) -> bool
     ensures { result ≡ spec.opens (spec.shown_before before.entry) }
 {
-    is_callee(before.last) || is_dot(before.second)
+    is_callee(before.last) || is_dot(before.second) && !is_open(before.last)
 }
 
 fn is_argument_mark(mark: Mark) -> bool

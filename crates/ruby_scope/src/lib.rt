@@ -5,3 +5,4 @@ mod pass;
 mod walk;
 
 pub use pass::resolve;
+pub use walk::walk_node;

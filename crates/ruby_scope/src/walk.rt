@@ -11,7 +11,7 @@ use ruby_locals::around::{
     as_role, condition_or_plain, has_target, is_condition, no_targets, plain, target_or_plain,
     within_block, within_def, within_lambda, within_loop, within_rescue,
 };
-use ruby_locals::call::{names_local, note, resolved_call};
+use ruby_locals::call::{bare_local, local_node, note, resolved_call};
 use ruby_locals::copy::{boxed, copy_name, copy_names, copy_rest, copy_slots, node_like, push};
 use ruby_locals::form::{note_constant, note_operator_set, note_set};
 use ruby_locals::leaf::walk_leaf;
@@ -27,7 +27,7 @@ use std::alloc::Global;
 
 /// A node.
 #[cycle(walk)]
-#[tactic(auto, unfolding(ruby_meaning::specs::Scoping::Walk::part, ruby_meaning::specs::Scoping::Walk::form_part))]
+#[tactic(auto, unfolding(ruby_meaning::specs::Scoping::Walk::part, ruby_meaning::specs::Scoping::Walk::form_part, ruby_meaning::specs::Scoping::Walk::local_or))]
 pub fn walk_node(
     alloc: Global,
     seen: &mut Seen,
@@ -37,11 +37,17 @@ pub fn walk_node(
     ensures seen { OnOk result (seen.new ≡ ((spec.part None node.now).walk around seen.old).seen) }
     ensures made { IfOk result (λ made. made ≡ ((spec.part None node.now).walk around seen.old).made) }
 {
+    let local = bare_local(seen, node);
     if !is_built(around.role, node.kind.get()) {
         unbuilt_at(seen, node.span.from);
     }
-    let kind = walk_form(alloc, seen, around, node.mark, node.kind.get())?;
-    node_like(alloc, kind, node)
+    match local {
+        Some(name) => local_node(alloc, seen, name, node),
+        None => {
+            let kind = walk_form(alloc, seen, around, node.mark, node.kind.get())?;
+            node_like(alloc, kind, node)
+        }
+    }
 }
 
 // A form, at its mark.
@@ -530,7 +536,7 @@ fn walk_attr(
 }
 
 #[cycle(walk)]
-#[tactic(auto, unfolding(ruby_meaning::specs::Scoping::Walk::part, ruby_meaning::specs::Scoping::Walk::form_part, ruby_meaning::specs::Scoping::Walk::params_part, ruby_meaning::specs::Scoping::Walk::module_part, ruby_meaning::specs::Scoping::Walk::call, ruby_meaning::specs::Scoping::Walk::other_call, crate::specs::Group::is_call))]
+#[tactic(auto, unfolding(ruby_meaning::specs::Scoping::Walk::part, ruby_meaning::specs::Scoping::Walk::form_part, ruby_meaning::specs::Scoping::Walk::params_part, ruby_meaning::specs::Scoping::Walk::module_part, ruby_meaning::specs::Scoping::Walk::call, crate::specs::Group::is_call))]
 fn walk_call(
     alloc: Global,
     seen: &mut Seen,
@@ -551,36 +557,31 @@ fn walk_call(
             block,
             marked,
         } => {
-            if names_local(seen, receiver, name, args, block) {
-                name_local(seen, name)?;
-                Ok(Kind::LocalGet(name.try_clone()?))
-            } else {
-                let test = as_role(role_of_args(receiver, name, args, block), around);
-                note(
-                    alloc,
-                    seen,
-                    around.role,
-                    mark,
-                    receiver,
-                    name,
-                    args,
-                    block,
-                    *marked,
-                )?;
-                let made_receiver = walk_any(alloc, seen, inner, receiver)?;
-                let made_args = walk_all(alloc, seen, test, args)?;
-                let made_block = walk_any(alloc, seen, inner, block)?;
-                resolved_call(
-                    alloc,
-                    receiver,
-                    name,
-                    args,
-                    *marked,
-                    made_receiver,
-                    made_args,
-                    made_block,
-                )
-            }
+            let test = as_role(role_of_args(receiver, name, args, block), around);
+            note(
+                alloc,
+                seen,
+                around.role,
+                mark,
+                receiver,
+                name,
+                args,
+                block,
+                *marked,
+            )?;
+            let made_receiver = walk_any(alloc, seen, inner, receiver)?;
+            let made_args = walk_all(alloc, seen, test, args)?;
+            let made_block = walk_any(alloc, seen, inner, block)?;
+            resolved_call(
+                alloc,
+                receiver,
+                name,
+                args,
+                *marked,
+                made_receiver,
+                made_args,
+                made_block,
+            )
         }
         _ => Err(NoMemory),
     }

@@ -2,30 +2,34 @@
 //! two; standard output takes a line for each of them, in the same order: the tree of the text, or
 //! `LINE:COLUMN CONSTRUCT` where it is refused, both counted from 1.
 //!
-//! Where a text begins with a line `spans`, which isn't a part of it, each node of the tree is
-//! followed by `@`, its span, `^` and its mark.
+//! A text may begin with a line that isn't a part of it:
+//!
+//! - `spans`: each node of the tree is followed by `@`, its span, `^` and its mark;
+//! - `depth`: the answer is the depth of the tree;
+//! - `scopes`: the answer is the refusal of scope, or the scopes, the names that are called and the
+//!   tree with its names resolved;
+//! - `resolve`: the same, where a form that isn't built yet is refused too.
 #![tactic(auto)]
 
 mod line;
 mod names;
+mod scopes;
 mod tree;
 
 ghost use Rattle.std.specs.Prelude.{◌<◌, ◌^◌, length};
 
 use crate::line::Line;
+use crate::scopes::{resolved, scoped};
 use crate::tree::tree;
 use opal_base::{DecodeFault, Pos, Units, decoded_fits, utf8_to_units};
 use ruby_lexer::lex;
-use ruby_meaning::{Construct, Program, Stop, tokens_placed};
+use ruby_meaning::{Construct, Program, Stop, depth, tokens_placed};
 use ruby_parser::parse;
 use std::alloc::{AllocError, Global};
 use std::io;
 
 /// What stands between two texts.
 const BETWEEN: &str = "\n----\n";
-
-/// What asks for spans and marks.
-const SPANS: &str = "spans\n";
 
 /// The longest text, in bytes.
 const MOST_BYTES: usize = 1_048_576;
@@ -41,25 +45,67 @@ fn main(rt: HostRuntime) -> io::Result<()> {
     Ok(())
 }
 
-// The line of a text, which may ask for spans.
-fn line_of(alloc: Global, row: &str) -> Result<String, AllocError> {
-    match row.strip_prefix(SPANS) {
-        Some(text) => answer(alloc, text, true),
-        None => answer(alloc, row, false),
+/// What a row asks for.
+#[derive(Clone, Copy)]
+enum Asked {
+    Tree,
+    Spans,
+    Depth,
+    Scopes,
+    Resolved,
+}
+
+// What a row asks for, and its text.
+fn asked(row: &str) -> (Asked, &str) {
+    if let Some(text) = row.strip_prefix("spans\n") {
+        return (Asked::Spans, text);
+    }
+    if let Some(text) = row.strip_prefix("depth\n") {
+        return (Asked::Depth, text);
+    }
+    if let Some(text) = row.strip_prefix("scopes\n") {
+        return (Asked::Scopes, text);
+    }
+    match row.strip_prefix("resolve\n") {
+        Some(text) => (Asked::Resolved, text),
+        None => (Asked::Tree, row),
     }
 }
 
-// The tree of a text, with its spans or without them, or its refusal.
-fn answer(alloc: Global, text: &str, spans: bool) -> Result<String, AllocError> {
-    match program(alloc, text.as_bytes()) {
-        Ok(program) => {
-            let mut line = Line::new(alloc, spans);
-            tree(&mut line, &program.body)?;
-            Ok(line.into_text())
-        }
+// The line of a row.
+fn line_of(alloc: Global, row: &str) -> Result<String, AllocError> {
+    let (asked, text) = asked(row);
+    match told(alloc, asked, text) {
+        Ok(line) => Ok(line),
         Err(Stop::Refused { pos, construct }) => refusal(alloc, pos, construct),
         Err(Stop::NoMemory) => Err(AllocError),
     }
+}
+
+// What is asked for, or the refusal of the text.
+fn told(alloc: Global, asked: Asked, text: &str) -> Result<String, Stop> {
+    let program = program(alloc, text.as_bytes())?;
+    match asked {
+        Asked::Tree => whole(alloc, &program, false),
+        Asked::Spans => whole(alloc, &program, true),
+        Asked::Depth => levels(alloc, &program),
+        Asked::Scopes => scoped(alloc, &program),
+        Asked::Resolved => resolved(alloc, program),
+    }
+}
+
+// The tree, with its spans or without them.
+fn whole(alloc: Global, program: &Program, spans: bool) -> Result<String, Stop> {
+    let mut line = Line::new(alloc, spans);
+    tree(&mut line, &program.body)?;
+    Ok(line.into_text())
+}
+
+// The depth of the tree.
+fn levels(alloc: Global, program: &Program) -> Result<String, Stop> {
+    let mut line = Line::new(alloc, false);
+    line.number(i64::from(depth(&program.body)))?;
+    Ok(line.into_text())
 }
 
 fn refusal(alloc: Global, pos: Pos, construct: Construct) -> Result<String, AllocError> {

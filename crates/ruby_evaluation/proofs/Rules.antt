@@ -122,12 +122,12 @@ unfolding outcome eval_to out-Kind out-Params out-Base out-ModuleForm Carrier.ou
 attributes = refl
 
 -- a cyclic include
-row_54 : runs core (module_ (codes "M") (seq ([]))
+cyclic_include : runs core (module_ (codes "M") (seq ([]))
     ∷ module_ (codes "N") (seq (include (codes "M") ∷ []))
     ∷ module_ (codes "M") (seq (include (codes "N") ∷ []))
     ∷ []) 700 ≡ Ended ([]) (Uncaught (codes "ArgumentError") (codes "cyclic include"))
 unfolding outcome eval_to out-Kind out-Params out-Base out-ModuleForm Carrier.out Carrier.shown Carrier.hidden TheBlock.shown-the_row-Node-2 roll-Params Carrier.roll decimal
-row_54 = refl
+cyclic_include = refl
 
 -- a key that is set again keeps its place
 hashes : runs core (set 0 (codes "h") (node (kinds.HashLit (int 1 ∷ int 2 ∷ int 1 ∷ []) (str (codes "a") ∷ str (codes "b") ∷ str (codes "d") ∷ [])))
@@ -174,12 +174,12 @@ unfolding outcome eval_to out-Kind out-Params out-Base out-ModuleForm Carrier.ou
 implicit = refl
 
 -- quotients round towards minus infinity
-row_6 : runs core (write_int (prim (codes "i_div") (node (kinds.Int (negsuc 6)) ∷ int 2 ∷ []))
+quotients : runs core (write_int (prim (codes "i_div") (node (kinds.Int (negsuc 6)) ∷ int 2 ∷ []))
     ∷ write_int (prim (codes "i_mod") (node (kinds.Int (negsuc 6)) ∷ int 2 ∷ []))
     ∷ write_int (prim (codes "i_div") (node (kinds.Int (negsuc 9007199254740990)) ∷ int 2 ∷ []))
     ∷ []) 700 ≡ Ended (codes "-4503599627370496" ∷ codes "1" ∷ codes "-4" ∷ []) Finished
 unfolding outcome eval_to out-Kind out-Params out-Base out-ModuleForm Carrier.out Carrier.shown Carrier.hidden TheBlock.shown-the_row-Node-2 roll-Params Carrier.roll decimal
-row_6 = refl
+quotients = refl
 
 -- break and return in a block of a lambda
 lambdas : runs core (set 0 (codes "f") (node_at 1 (kinds.Lambda (plain []) (seq (call_with None (codes "each") [] (block_at 3 (codes "x" ∷ []) (return_ (get (codes "x")))) ∷ write (str (codes "no")) ∷ []))))
@@ -191,9 +191,9 @@ unfolding outcome eval_to out-Kind out-Params out-Base out-ModuleForm Carrier.ou
 lambdas = refl
 
 -- requires that go round
-row_15 : told (outcome (seq []) (record { main = codes "main.rb"; files = (codes "main.rb", seq (node (kinds.Require (codes "a.rb") false) ∷ node (kinds.Require (codes "b.rb") false) ∷ write (str (codes "m")) ∷ [])) ∷ (codes "a.rb", seq (node (kinds.Require (codes "b.rb") false) ∷ write (str (codes "a")) ∷ [])) ∷ (codes "b.rb", seq (node (kinds.Require (codes "a.rb") false) ∷ write (str (codes "b")) ∷ [])) ∷ [] }) ([]) 700) ≡ Ended (codes "m" ∷ codes "a" ∷ codes "b" ∷ []) Finished
+required_once : told (outcome (seq []) (record { main = codes "main.rb"; files = (codes "main.rb", seq (node (kinds.Require (codes "a.rb") false) ∷ node (kinds.Require (codes "b.rb") false) ∷ write (str (codes "m")) ∷ [])) ∷ (codes "a.rb", seq (node (kinds.Require (codes "b.rb") false) ∷ write (str (codes "a")) ∷ [])) ∷ (codes "b.rb", seq (node (kinds.Require (codes "a.rb") false) ∷ write (str (codes "b")) ∷ [])) ∷ [] }) ([]) 700) ≡ Ended (codes "m" ∷ codes "a" ∷ codes "b" ∷ []) Finished
 unfolding outcome eval_to out-Kind out-Params out-Base out-ModuleForm Carrier.out Carrier.shown Carrier.hidden TheBlock.shown-the_row-Node-2 roll-Params Carrier.roll decimal
-row_15 = refl
+required_once = refl
 
 -- a relative require starts at the directory of its file
 relative : told (outcome (seq []) (record { main = codes "main.rb"; files = (codes "main.rb", seq (node (kinds.Require (codes "d/a.rb") false) ∷ [])) ∷ (codes "d/a.rb", seq (node (kinds.Require (codes "../d/./b.rb") true) ∷ [])) ∷ (codes "d/b.rb", seq (write (str (codes "b")) ∷ [])) ∷ [] }) ([]) 700) ≡ Ended (codes "b" ∷ []) Finished

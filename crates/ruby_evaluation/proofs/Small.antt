@@ -20,47 +20,47 @@ unfolding outcome eval_to out-Kind out-Params out-Base out-ModuleForm Carrier.ou
 hello = refl
 
 -- a redefinition is found at once
-row_42 : runs core (class (codes "A") None (seq (def (codes "f") (codes "n" ∷ []) (add (get (codes "n")) (own_call (codes "g") ([]))) ∷ def (codes "g") ([]) (int 1) ∷ []))
+redefined_at_once : runs core (class (codes "A") None (seq (def (codes "f") (codes "n" ∷ []) (add (get (codes "n")) (own_call (codes "g") ([]))) ∷ def (codes "g") ([]) (int 1) ∷ []))
     ∷ class (codes "B") (Some (const (codes "A"))) (seq (def (codes "g") ([]) (int 10) ∷ []))
     ∷ write_int (call (new_ (codes "B")) (codes "f") (int 5 ∷ []))
     ∷ class (codes "A") None (seq (def (codes "f") (codes "n" ∷ []) (mul (get (codes "n")) (own_call (codes "g") ([]))) ∷ []))
     ∷ write_int (call (new_ (codes "B")) (codes "f") (int 5 ∷ [])) ∷ []) 600 ≡ Ended (codes "50" ∷ codes "15" ∷ []) Finished
 unfolding outcome eval_to out-Kind out-Params out-Base out-ModuleForm Carrier.out Carrier.shown Carrier.hidden TheBlock.shown-the_row-Node-2 roll-Params Carrier.roll decimal
-row_42 = refl
+redefined_at_once = refl
 
 -- break through rescue and ensure
-row_8 : runs core (set 0 (codes "v") (call_with None (codes "each") ([]) (block_at 1 (codes "x" ∷ []) (begin_ (if_ (same (get (codes "x")) (int 2)) (break_ (mul (get (codes "x")) (int 10))) nil) (rescue [] (write (str (codes "r"))) ∷ []) (Some (write_int (get (codes "x")))))))
+break_through_ensure : runs core (set 0 (codes "v") (call_with None (codes "each") ([]) (block_at 1 (codes "x" ∷ []) (begin_ (if_ (same (get (codes "x")) (int 2)) (break_ (mul (get (codes "x")) (int 10))) nil) (rescue [] (write (str (codes "r"))) ∷ []) (Some (write_int (get (codes "x")))))))
     ∷ write_int (get (codes "v")) ∷ []) 600 ≡ Ended (codes "20" ∷ codes "2" ∷ codes "1" ∷ []) Finished
 unfolding outcome eval_to out-Kind out-Params out-Base out-ModuleForm Carrier.out Carrier.shown Carrier.hidden TheBlock.shown-the_row-Node-2 roll-Params Carrier.roll decimal
-row_8 = refl
+break_through_ensure = refl
 
 -- a break whose call is over
-row_9 : runs core (set 0 (codes "pr") (call_with None (codes "proc") ([]) (block_at 1 ([]) (break_ (int 1))))
+orphan_break : runs core (set 0 (codes "pr") (call_with None (codes "proc") ([]) (block_at 1 ([]) (break_ (int 1))))
     ∷ begin_ (call (get (codes "pr")) (codes "call") ([])) (rescue (const (codes "LocalJumpError") ∷ []) (write (str (codes "gone"))) ∷ []) None ∷ []) 600 ≡ Ended (codes "gone" ∷ []) Finished
 unfolding outcome eval_to out-Kind out-Params out-Base out-ModuleForm Carrier.out Carrier.shown Carrier.hidden TheBlock.shown-the_row-Node-2 roll-Params Carrier.roll decimal
-row_9 = refl
+orphan_break = refl
 
 -- return out of a block, with an ensure part
-row_10 : runs core (def (codes "f") [] (begin_ (call_with None (codes "each") ([]) (block_at 1 (codes "x" ∷ []) (return_ (get (codes "x"))))) [] (Some (write (str (codes "e")))))
+return_through_ensure : runs core (def (codes "f") [] (begin_ (call_with None (codes "each") ([]) (block_at 1 (codes "x" ∷ []) (return_ (get (codes "x"))))) [] (Some (write (str (codes "e")))))
     ∷ write_int (own_call (codes "f") ([])) ∷ []) 600 ≡ Ended (codes "1" ∷ codes "e" ∷ []) Finished
 unfolding outcome eval_to out-Kind out-Params out-Base out-ModuleForm Carrier.out Carrier.shown Carrier.hidden TheBlock.shown-the_row-Node-2 roll-Params Carrier.roll decimal
-row_10 = refl
+return_through_ensure = refl
 
 -- parameters of blocks
-row_44 : runs core (def (codes "m") ([]) (yields (int 1 ∷ int 2 ∷ []))
+block_parameters : runs core (def (codes "m") ([]) (yields (int 1 ∷ int 2 ∷ []))
     ∷ call_with None (codes "m") ([]) (block_at 1 (codes "a" ∷ codes "b" ∷ codes "c" ∷ []) (if_ (same (get (codes "c")) nil) (write (str (codes "t"))) nil))
     ∷ call_with None (codes "m") ([]) (block_at 2 (codes "a" ∷ []) (write_int (get (codes "a")))) ∷ []) 600 ≡ Ended (codes "1" ∷ codes "t" ∷ []) Finished
 unfolding outcome eval_to out-Kind out-Params out-Base out-ModuleForm Carrier.out Carrier.shown Carrier.hidden TheBlock.shown-the_row-Node-2 roll-Params Carrier.roll decimal
-row_44 = refl
+block_parameters = refl
 
 -- retry and ensure
-row_46 : runs core (set 0 (codes "n") (int 0)
+retried : runs core (set 0 (codes "n") (int 0)
     ∷ begin_ (seq (set 0 (codes "n") (add (get (codes "n")) (int 1)) ∷ if_ (prim (codes "i_lt") (get (codes "n") ∷ int 3 ∷ [])) (prim (codes "raise") (new_ (codes "StandardError") ∷ [])) nil ∷ write_int (get (codes "n")) ∷ [])) (rescue [] (node kinds.Retry) ∷ []) (Some (write (str (codes "end")))) ∷ []) 800 ≡ Ended (codes "end" ∷ codes "3" ∷ []) Finished
 unfolding outcome eval_to out-Kind out-Params out-Base out-ModuleForm Carrier.out Carrier.shown Carrier.hidden TheBlock.shown-the_row-Node-2 roll-Params Carrier.roll decimal
-row_46 = refl
+retried = refl
 
 -- an include and a definition reach instances that exist
-row_3 : runs core (module_ (codes "M") (seq (def (codes "m") ([]) (str (codes "m")) ∷ []))
+include_reaches_instances : runs core (module_ (codes "M") (seq (def (codes "m") ([]) (str (codes "m")) ∷ []))
     ∷ class (codes "A") None (seq ([]))
     ∷ set 0 (codes "a") (new_ (codes "A"))
     ∷ class (codes "A") None (seq (include (codes "M") ∷ []))
@@ -68,29 +68,29 @@ row_3 : runs core (module_ (codes "M") (seq (def (codes "m") ([]) (str (codes "m
     ∷ module_ (codes "M") (seq (def (codes "m") ([]) (str (codes "n")) ∷ []))
     ∷ write (call (get (codes "a")) (codes "m") ([])) ∷ []) 600 ≡ Ended (codes "n" ∷ codes "m" ∷ []) Finished
 unfolding outcome eval_to out-Kind out-Params out-Base out-ModuleForm Carrier.out Carrier.shown Carrier.hidden TheBlock.shown-the_row-Node-2 roll-Params Carrier.roll decimal
-row_3 = refl
+include_reaches_instances = refl
 
 -- super along modules and classes
-row_4 : runs core (module_ (codes "P") (seq (def (codes "f") ([]) (join (str (codes "P")) super_) ∷ []))
+super_along_modules : runs core (module_ (codes "P") (seq (def (codes "f") ([]) (join (str (codes "P")) super_) ∷ []))
     ∷ module_ (codes "Q") (seq (def (codes "f") ([]) (join (str (codes "Q")) super_) ∷ []))
     ∷ class (codes "B") None (seq (def (codes "f") ([]) (str (codes "B")) ∷ []))
     ∷ class (codes "C") (Some (const (codes "B"))) (seq (include (codes "P") ∷ include (codes "Q") ∷ def (codes "f") ([]) (join (str (codes "C")) super_) ∷ []))
     ∷ write (call (new_ (codes "C")) (codes "f") ([])) ∷ []) 600 ≡ Ended (codes "CQPB" ∷ []) Finished
 unfolding outcome eval_to out-Kind out-Params out-Base out-ModuleForm Carrier.out Carrier.shown Carrier.hidden TheBlock.shown-the_row-Node-2 roll-Params Carrier.roll decimal
-row_4 = refl
+super_along_modules = refl
 
 -- the last place of a module that stands twice counts
-row_52 : runs core (class (codes "Object") None (seq (def (codes "f") ([]) (str (codes "O")) ∷ []))
+last_place_counts : runs core (class (codes "Object") None (seq (def (codes "f") ([]) (str (codes "O")) ∷ []))
     ∷ module_ (codes "M") (seq (def (codes "f") ([]) (join (str (codes "M")) super_) ∷ []))
     ∷ class (codes "B") None (seq (def (codes "f") ([]) (str (codes "B")) ∷ []))
     ∷ class (codes "C") (Some (const (codes "B"))) (seq (include (codes "M") ∷ []))
     ∷ class (codes "B") None (seq (include (codes "M") ∷ []))
     ∷ write (call (new_ (codes "C")) (codes "f") ([])) ∷ []) 600 ≡ Ended (codes "MO" ∷ []) Finished
 unfolding outcome eval_to out-Kind out-Params out-Base out-ModuleForm Carrier.out Carrier.shown Carrier.hidden TheBlock.shown-the_row-Node-2 roll-Params Carrier.roll decimal
-row_52 = refl
+last_place_counts = refl
 
 -- a later include into a module reaches no earlier includer
-row_53 : runs core (module_ (codes "M") (seq ([]))
+later_include : runs core (module_ (codes "M") (seq ([]))
     ∷ module_ (codes "N") (seq ([]))
     ∷ class (codes "A") None (seq (include (codes "M") ∷ []))
     ∷ module_ (codes "M") (seq (include (codes "N") ∷ []))
@@ -105,64 +105,64 @@ row_53 : runs core (module_ (codes "M") (seq ([]))
     ∷ write (prim (codes "mod_name") (prim (codes "a_get") (prim (codes "ancestors") (const (codes "B") ∷ []) ∷ int 3 ∷ []) ∷ []))
     ∷ write (prim (codes "mod_name") (prim (codes "a_get") (prim (codes "ancestors") (const (codes "B") ∷ []) ∷ int 4 ∷ []) ∷ [])) ∷ []) 900 ≡ Ended (codes "Kernel" ∷ codes "Object" ∷ codes "N" ∷ codes "M" ∷ codes "B" ∷ codes "Kernel" ∷ codes "Object" ∷ codes "M" ∷ codes "A" ∷ []) Finished
 unfolding outcome eval_to out-Kind out-Params out-Base out-ModuleForm Carrier.out Carrier.shown Carrier.hidden TheBlock.shown-the_row-Node-2 roll-Params Carrier.roll decimal
-row_53 = refl
+later_include = refl
 
 -- method_missing
-row_5 : runs core (class (codes "A") None (seq (node (kinds.Def None (codes "method_missing") (with_rest (codes "name" ∷ []) (codes "args")) (join (get (codes "name")) (prim (codes "i_to_s") (prim (codes "a_len") (get (codes "args") ∷ []) ∷ [])))) ∷ []))
+missing_method_answered : runs core (class (codes "A") None (seq (node (kinds.Def None (codes "method_missing") (with_rest (codes "name" ∷ []) (codes "args")) (join (get (codes "name")) (prim (codes "i_to_s") (prim (codes "a_len") (get (codes "args") ∷ []) ∷ [])))) ∷ []))
     ∷ set 0 (codes "a") (new_ (codes "A"))
     ∷ write (call (get (codes "a")) (codes "zip_up") (int 1 ∷ int 2 ∷ []))
     ∷ if_ (prim (codes "responds") (get (codes "a") ∷ str (codes "zip_up") ∷ [])) (write (str (codes "true"))) (write (str (codes "false"))) ∷ []) 600 ≡ Ended (codes "false" ∷ (codes "zip_up" ++ codes "2") ∷ []) Finished
 unfolding outcome eval_to out-Kind out-Params out-Base out-ModuleForm Carrier.out Carrier.shown Carrier.hidden TheBlock.shown-the_row-Node-2 roll-Params Carrier.roll decimal
-row_5 = refl
+missing_method_answered = refl
 
 -- a singleton class
-row_55 : runs core (set 0 (codes "a") (new_ (codes "Object"))
+singleton_class : runs core (set 0 (codes "a") (new_ (codes "Object"))
     ∷ node (kinds.ModuleDef (forms.Singleton (get (codes "a"))) [] (def (codes "f") ([]) (str (codes "one"))))
     ∷ write (call (get (codes "a")) (codes "f") ([]))
     ∷ write (prim (codes "mod_name") (prim (codes "singleton") (get (codes "a") ∷ []) ∷ [])) ∷ []) 600 ≡ Ended (codes "#<Class:#<Object>>" ∷ codes "one" ∷ []) Finished
 unfolding outcome eval_to out-Kind out-Params out-Base out-ModuleForm Carrier.out Carrier.shown Carrier.hidden TheBlock.shown-the_row-Node-2 roll-Params Carrier.roll decimal
-row_55 = refl
+singleton_class = refl
 
 -- undef
-row_56 : runs core (class (codes "A") None (seq (def (codes "f") ([]) (str (codes "A")) ∷ []))
+undefined_method : runs core (class (codes "A") None (seq (def (codes "f") ([]) (str (codes "A")) ∷ []))
     ∷ class (codes "B") (Some (const (codes "A"))) (seq (node (kinds.Undef (codes "f" ∷ [])) ∷ []))
     ∷ set 0 (codes "b") (new_ (codes "B"))
     ∷ if_ (prim (codes "responds") (get (codes "b") ∷ str (codes "f") ∷ [])) (write (str (codes "true"))) (write (str (codes "false")))
     ∷ class (codes "B") None (seq (def (codes "f") ([]) (str (codes "B")) ∷ []))
     ∷ write (call (get (codes "b")) (codes "f") ([])) ∷ []) 600 ≡ Ended (codes "B" ∷ codes "false" ∷ []) Finished
 unfolding outcome eval_to out-Kind out-Params out-Base out-ModuleForm Carrier.out Carrier.shown Carrier.hidden TheBlock.shown-the_row-Node-2 roll-Params Carrier.roll decimal
-row_56 = refl
+undefined_method = refl
 
 -- a method of nil that is missing
-row_20 : runs core (call (nil) (codes "foo") ([]) ∷ []) 400 ≡ Ended ([]) (Uncaught (codes "NoMethodError") (codes "undefined method 'foo' for NilClass"))
+missing_for_nil : runs core (call (nil) (codes "foo") ([]) ∷ []) 400 ≡ Ended ([]) (Uncaught (codes "NoMethodError") (codes "undefined method 'foo' for NilClass"))
 unfolding outcome eval_to out-Kind out-Params out-Base out-ModuleForm Carrier.out Carrier.shown Carrier.hidden TheBlock.shown-the_row-Node-2 roll-Params Carrier.roll decimal
-row_20 = refl
+missing_for_nil = refl
 
 -- a sum outside the range
-row_7 : runs core (write (str (codes "a"))
+sum_outside : runs core (write (str (codes "a"))
     ∷ add (int 9007199254740991) (int 1)
     ∷ write (str (codes "b")) ∷ []) 400 ≡ Ended (codes "a" ∷ []) NumberOutside
 unfolding outcome eval_to out-Kind out-Params out-Base out-ModuleForm Carrier.out Carrier.shown Carrier.hidden TheBlock.shown-the_row-Node-2 roll-Params Carrier.roll decimal
-row_7 = refl
+sum_outside = refl
 
 -- a local is read before a later argument changes it
-row_11 : runs core (set 0 (codes "a") (int 1)
+read_before_change : runs core (set 0 (codes "a") (int 1)
     ∷ write_int (add (get (codes "a")) (set 0 (codes "a") (int 2))) ∷ []) 400 ≡ Ended (codes "3" ∷ []) Finished
 unfolding outcome eval_to out-Kind out-Params out-Base out-ModuleForm Carrier.out Carrier.shown Carrier.hidden TheBlock.shown-the_row-Node-2 roll-Params Carrier.roll decimal
-row_11 = refl
+read_before_change = refl
 
 -- a lambda counts its arguments
-row_45 : runs core (set 0 (codes "f") (node_at 1 (kinds.Lambda (plain (codes "x" ∷ [])) (return_ (add (get (codes "x")) (int 1)))))
+lambda_arguments : runs core (set 0 (codes "f") (node_at 1 (kinds.Lambda (plain (codes "x" ∷ [])) (return_ (add (get (codes "x")) (int 1)))))
     ∷ write_int (call (get (codes "f")) (codes "call") (int 4 ∷ []))
     ∷ call (get (codes "f")) (codes "call") ([]) ∷ []) 600 ≡ Ended (codes "5" ∷ []) (Uncaught (codes "ArgumentError") (codes "wrong number of arguments (given " ++ codes "0" ++ codes ", expected " ++ codes "1" ++ codes ")"))
 unfolding outcome eval_to out-Kind out-Params out-Base out-ModuleForm Carrier.out Carrier.shown Carrier.hidden TheBlock.shown-the_row-Node-2 roll-Params Carrier.roll decimal
-row_45 = refl
+lambda_arguments = refl
 
 -- a run without end
-row_14 : runs core (def (codes "f") ([]) (own_call (codes "f") ([]))
+no_end : runs core (def (codes "f") ([]) (own_call (codes "f") ([]))
     ∷ own_call (codes "f") ([]) ∷ []) 500 ≡ Going ([])
 unfolding outcome eval_to out-Kind out-Params out-Base out-ModuleForm Carrier.out Carrier.shown Carrier.hidden TheBlock.shown-the_row-Node-2 roll-Params Carrier.roll decimal
-row_14 = refl
+no_end = refl
 
 -- a block sets the local that stands before it, and has one of its own that only text behind it names
 block_sees : runs core (set 1 (codes "x") (int 0)
