@@ -1,5 +1,5 @@
 -- Worked programs with the whole core library, computed.
-use Rattle.std.specs.Prelude.{◌≡◌, [], ◌∷◌, codes, refl, Some, None, true, false, pos, negsuc}
+use Rattle.std.specs.Prelude.{◌≡◌, [], ◌∷◌, codes, refl, Some, None, false, pos, negsuc}
 use denote.Hole.Carrier
 use Rattle.ruby_meaning.specs.declared.tree.Base.TheBlock
 use Rattle.ruby_meaning.specs.Run.{Finished, Uncaught, NumberOutside}
@@ -157,7 +157,7 @@ unfolding outcome eval_to out-Kind out-Params out-Base out-ModuleForm Carrier.ou
 read_before_change = refl
 
 -- a method that calls itself for ever
-no_end : runs whole_core ((nd 0 0 (kinds.Def None (codes "f") (roll-Params (record { plain = ([]); optional = ([]); defaults = ([]); rest = rest.None; after = ([]); block = None })) (nd 0 7 (kinds.Seq ((nd 0 7 (kinds.Call None (codes "f") ([]) None None)) ∷ []))))) ∷ (nd 0 15 (kinds.Call None (codes "f") ([]) None None)) ∷ []) 10000 ≡ Going []
+no_end : runs whole_core ((nd 0 0 (kinds.Def None (codes "f") (roll-Params (record { plain = ([]); optional = ([]); defaults = ([]); rest = rest.None; after = ([]); block = None })) (nd 0 7 (kinds.Seq ((nd 0 7 (kinds.Call None (codes "f") ([]) None None)) ∷ []))))) ∷ (nd 0 15 (kinds.Call None (codes "f") ([]) None None)) ∷ []) 3000 ≡ Going []
 unfolding outcome eval_to out-Kind out-Params out-Base out-ModuleForm Carrier.out Carrier.shown Carrier.hidden TheBlock.shown-the_row-Node-2 roll-Params Carrier.roll decimal
 no_end = refl
 
@@ -172,7 +172,7 @@ unfolding outcome eval_to out-Kind out-Params out-Base out-ModuleForm Carrier.ou
 missing_for_nil = refl
 
 -- a loop that makes arrays for ever
-growing_for_ever : runs whole_core ((nd 0 0 (kinds.LocalSet (codes "a") (nd 0 4 (kinds.ArrayLit ([]))))) ∷ (nd 0 8 (kinds.While (nd 0 14 (kinds.Lit literal.True)) (nd 0 20 (kinds.Seq ((nd 0 20 (kinds.LocalSet (codes "a") (nd 0 24 (kinds.ArrayLit ((nd 0 25 (kinds.LocalGet (codes "a"))) ∷ []))))) ∷ []))) false)) ∷ []) 5000 ≡ Going []
+growing_for_ever : runs whole_core ((nd 0 0 (kinds.LocalSet (codes "a") (nd 0 4 (kinds.ArrayLit ([]))))) ∷ (nd 0 8 (kinds.While (nd 0 14 (kinds.Lit literal.True)) (nd 0 20 (kinds.Seq ((nd 0 20 (kinds.LocalSet (codes "a") (nd 0 24 (kinds.ArrayLit ((nd 0 25 (kinds.LocalGet (codes "a"))) ∷ []))))) ∷ []))) false)) ∷ []) 3000 ≡ Going []
 unfolding outcome eval_to out-Kind out-Params out-Base out-ModuleForm Carrier.out Carrier.shown Carrier.hidden TheBlock.shown-the_row-Node-2 roll-Params Carrier.roll decimal
 growing_for_ever = refl
 
