@@ -10,7 +10,7 @@ use Rattle.es5_tree.specs.declared.tree.EsStmt.{EsStmt, EsStmt-F, out-EsStmt}
 use Rattle.es5_tree.specs.declared.tree.EsStmt.TheVariants as stmt
 use Rattle.es5_tree.specs.declared.tree.Operator.{Operator}
 use Rattle.es5_tree.specs.Values.{Text, Val, Undefined, Null, Truth, Num, Str}
-use Rattle.es5_evaluation.specs.Task.{Variable, Refers, Return, Throw, Break, Continue, Scope, Evaluate, Refer, Execute, Turn, Task, Done, Ask, Enter, ◌>>=◌}
+use Rattle.es5_evaluation.specs.Task.{Variable, Refers, Return, Throw, Break, Continue, Scope, Evaluate, Refer, Execute, Turn, Done, Ask, Enter, ◌>>=◌}
 use Rattle.es5_evaluation.specs.Values.{truthy, negated, binary}
 use Rattle.es5_evaluation.specs.Evaluate.{Layer, Statement, ItsValue, ItsPlace, access, access_at, all, and_then, branch, call_place, call_with, caught_by, choose, delete_place, eval_node, evaluated, exec_node, gather, gives, initialized, make_array, make_function, make_object, normally, nothing, operated, or_else, perform, read_name, refer_node, referred, tried, turn, type_error, type_of, type_of_place, write_place}
 use Rattle.es5_evaluation.proofs.Layers as layer
