@@ -4,8 +4,17 @@
 //!
 //! - `make KIND LINK`: makes an object, array, arguments or function; its number;
 //! - `put OBJECT NAME VALUE`: writes a property; of an array only numbers from 0;
-//! - `get OBJECT NAME`: the value of a property, its own or an inherited one;
-//! - `call PATH THIS ARGUMENT..`: calls the intrinsic function that stands at a path from a global.
+//! - `delete OBJECT NAME`: deletes a property of what is no array, and whether it was there;
+//! - `get OBJECT NAME`, `own OBJECT NAME`: the value of a property, its own or an inherited one, or its own;
+//! - `names OBJECT`: the listed names, each behind a comma; `kind OBJECT`: its kind;
+//! - `objects`: how many there are, and how many there is room for;
+//! - `call PATH THIS ARGUMENT..`: calls the intrinsic function that stands at a path from a global;
+//! - `function NUMBER`, `globals`, `global NAME`: the function of a number; the number of the globals, and
+//!   the place, the name and the value of one;
+//! - `input TEXT`: what is read by lines, with `\n` for a line feed; `sink BYTES CALL`: a new sink, which
+//!   takes so many bytes at once, and whose call of this number fails; `taken`: what it has taken;
+//! - `bind NAME VALUE`, `bound`, `place NAME`, `value PLACE`, `set PLACE VALUE`: puts a name with its value
+//!   at the end of a list; the number of its names; the place of one; the value at a place; another one.
 //!
 //! A value is `undefined`, `null`, `true`, `false`, a number, a text in `'`, or an object as `@` and its
 //! number. Lines that begin with `#` and empty ones are taken again as they are.
@@ -13,12 +22,15 @@
 
 ghost use Rattle.std.specs.Prelude.{◌≤◌};
 
+mod looks;
+mod scene;
 mod shown;
 mod steps;
 mod words;
 
+use crate::scene::Scene;
 use crate::steps::step;
-use es5_host::{INTRINSICS, Lines, intrinsics, intrinsics_stand};
+use es5_host::{Bindings, INTRINSICS, Lines, intrinsics, intrinsics_stand};
 use es5_objects::ObjHeap;
 use opal_base::{Bytes, MemSink, NoMemory, Units};
 use std::alloc::{AllocError, Global};
@@ -56,14 +68,16 @@ fn answers(alloc: Global, cells: u32, steps: &str) -> Result<Bytes, NoMemory>
     let mut heap = ObjHeap::new(alloc, INTRINSICS + cells)?;
     let globals = intrinsics(alloc, &mut heap)?;
     intrinsics_stand();
-    let mut lines = Lines::new(Units::new(alloc));
-    let mut sink = MemSink::new(alloc, 16, Vec::new(alloc));
+    let mut scene = Scene {
+        globals,
+        list: Bindings::new(alloc),
+        lines: Lines::new(Units::new(alloc)),
+        sink: MemSink::new(alloc, 16, Vec::new(alloc)),
+    };
     let mut out = Bytes::new(alloc);
     for line in steps.split_terminator('\n') {
         out.extend(line.as_bytes())?;
-        step(
-            alloc, &mut heap, &globals, line, &mut lines, &mut sink, &mut out,
-        )?;
+        step(alloc, &mut heap, &mut scene, line, &mut out)?;
         out.extend(b"\n")?;
     }
     Ok(out)

@@ -9,14 +9,21 @@ pub fn show(out: &mut Bytes, text: &str) -> Result<(), NoMemory> {
     out.extend(text.as_bytes())
 }
 
-fn show_number(alloc: Global, out: &mut Bytes, number: i64) -> Result<(), NoMemory> {
+pub fn show_number(alloc: Global, out: &mut Bytes, number: i64) -> Result<(), NoMemory> {
     match format!(in alloc; "{number}") {
         Ok(text) => show(out, text.as_str()),
         Err(_) => Err(NoMemory),
     }
 }
 
-fn show_units(alloc: Global, out: &mut Bytes, text: &Units) -> Result<(), NoMemory> {
+pub fn show_count(alloc: Global, out: &mut Bytes, count: usize) -> Result<(), NoMemory> {
+    match format!(in alloc; "{count}") {
+        Ok(text) => show(out, text.as_str()),
+        Err(_) => Err(NoMemory),
+    }
+}
+
+pub fn show_units(alloc: Global, out: &mut Bytes, text: &Units) -> Result<(), NoMemory> {
     let bytes = units_to_utf8(alloc, text)?;
     out.extend(bytes.as_slice())
 }

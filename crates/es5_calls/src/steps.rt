@@ -6,12 +6,14 @@ ghost use Rattle.es5_tree.specs.Objects.Links.{cell_at};
 ghost use Rattle.es5_tree.specs.Intrinsics.Valid.{Names, Valid};
 ghost use Rattle.es5_objects.specs.Values.{value_of};
 
+use crate::looks;
+use crate::scene::{self, Scene};
 use crate::shown::{show, show_answer, show_object, show_value};
 use crate::words::{first_word, kind, object, units, value, values};
-use es5_host::{Globals, HostFn, Lines, heaps_stay_valid, host_call, host_fn};
+use es5_host::{Globals, HostFn, heaps_stay_valid, host_call, host_fn};
 use es5_objects::{CellKind, EsValue, ObjHeap};
 use es5_tree::SafeInt;
-use opal_base::{Bytes, MemSink, NoMemory, Units};
+use opal_base::{Bytes, NoMemory, Units};
 use std::alloc::Global;
 
 // The object that a global is.
@@ -68,10 +70,8 @@ fn function_at(
 fn call(
     alloc: Global,
     heap: &mut ObjHeap,
-    globals: &Globals,
+    scene: &mut Scene,
     words: &str,
-    lines: &mut Lines,
-    sink: &mut MemSink,
     out: &mut Bytes,
 ) -> Result<(), NoMemory>
     requires { Valid heap.old.cells }
@@ -79,11 +79,12 @@ fn call(
 {
     let (path, words) = first_word(words);
     let (this, words) = first_word(words);
-    let Some(which) = function_at(alloc, heap, globals, path)? else {
+    let Some(which) = function_at(alloc, heap, &scene.globals, path)? else {
         return show(out, "no function");
     };
     let this = value(alloc, this, heap.len())?;
     let args = values(alloc, words, heap.len())?;
+    let (lines, sink) = (&mut scene.lines, &mut scene.sink);
     let answer = host_call(alloc, heap, which, &this, &args, lines, sink);
     show_answer(alloc, out, &answer)
 }
@@ -146,14 +147,55 @@ fn get(alloc: Global, heap: &ObjHeap, words: &str, out: &mut Bytes) -> Result<()
     }
 }
 
+// Takes a step that changes no object, and shows its answer.
+fn look(
+    alloc: Global,
+    heap: &ObjHeap,
+    scene: &mut Scene,
+    verb: &str,
+    words: &str,
+    out: &mut Bytes,
+) -> Result<(), NoMemory> {
+    match verb {
+        "get" => get(alloc, heap, words, out),
+        "own" => looks::own(alloc, heap, words, out),
+        "names" => looks::names(alloc, heap, words, out),
+        "kind" => looks::kind(alloc, heap, words, out),
+        "objects" => looks::objects(alloc, heap, out),
+        "function" => looks::function(alloc, words, out),
+        "global" => looks::global(alloc, &scene.globals, words, out),
+        "globals" => looks::globals(alloc, &scene.globals, out),
+        _ => stage(alloc, scene, verb, words, out),
+    }
+}
+
+// Takes a step on what stands beside the heap, and shows its answer.
+fn stage(
+    alloc: Global,
+    scene: &mut Scene,
+    verb: &str,
+    words: &str,
+    out: &mut Bytes,
+) -> Result<(), NoMemory> {
+    match verb {
+        "input" => scene::input(alloc, scene, words, out),
+        "sink" => scene::sink(alloc, scene, words, out),
+        "taken" => scene::taken(scene, out),
+        "bind" => scene::bind(alloc, scene, words, out),
+        "bound" => scene::bound(alloc, scene, out),
+        "place" => scene::place(alloc, scene, words, out),
+        "value" => scene::value(alloc, scene, words, out),
+        "set" => scene::set(scene, words, out),
+        _ => show(out, "no step"),
+    }
+}
+
 /// Takes a step, and shows its answer.
 pub fn step(
     alloc: Global,
     heap: &mut ObjHeap,
-    globals: &Globals,
+    scene: &mut Scene,
     line: &str,
-    lines: &mut Lines,
-    sink: &mut MemSink,
     out: &mut Bytes,
 ) -> Result<(), NoMemory>
     requires { Valid heap.old.cells }
@@ -167,8 +209,8 @@ pub fn step(
     match verb {
         "make" => make(alloc, heap, words, out),
         "put" => put(alloc, heap, words, out),
-        "get" => get(alloc, heap, words, out),
-        "call" => call(alloc, heap, globals, words, lines, sink, out),
-        _ => show(out, "no step"),
+        "delete" => looks::delete(alloc, heap, words, out),
+        "call" => call(alloc, heap, scene, words, out),
+        _ => look(alloc, heap, scene, verb, words, out),
     }
 }

@@ -40,7 +40,7 @@ pub fn kind(word: &str) -> CellKind {
     match word {
         "array" => CellKind::Array,
         "arguments" => CellKind::Arguments,
-        "function" => CellKind::Function { code: 0, scope: 0 },
+        "function" => CellKind::Function { code: 3, scope: 4 },
         _ => CellKind::Object,
     }
 }
@@ -58,8 +58,8 @@ fn number(word: &str) -> EsValue
     }
 }
 
-// The value that a word without an object or a text is.
-fn named_value(word: &str) -> EsValue
+/// The value that a word without an object or a text is.
+pub fn named_value(word: &str) -> EsValue
     ensures { (n : ℕ) → Names n (value_of result) }
 {
     match word {

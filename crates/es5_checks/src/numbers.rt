@@ -17,12 +17,7 @@ fn put_part(alloc: Global, part: Option<usize>, out: &mut Bytes) -> Result<(), A
 }
 
 // What stands at a number: nothing, an expression, a function, a statement, or the parts of a list.
-fn put_sort(
-    alloc: Global,
-    table: &NodeTable,
-    i: usize,
-    out: &mut Bytes,
-) -> Result<(), AllocError> {
+fn put_sort(alloc: Global, table: &NodeTable, i: usize, out: &mut Bytes) -> Result<(), AllocError> {
     put(out, &format!(in alloc; " {i}:")?)?;
     if table.expr(i).is_some() {
         put(out, " expression")?;

@@ -1,18 +1,18 @@
 -- What a node of each form does when it begins.
-use Rattle.std.proofs.Common.{◌≡◌, ℤ, true, false, List, [], Option, codes, refl, sym, ap, ◌∙◌}
+use Rattle.std.proofs.Common.{◌≡◌, ℤ, true, false, List, [], ◌∷◌, Option, Some, codes, refl, sym, ap, ◌∙◌}
 use Rattle.std.specs.Prelude.{not}
 use Rattle.opal_base.specs.declared.place.Pos.{Pos}
-use Rattle.es5_tree.specs.declared.tree.Catch.{Catch}
+use Rattle.es5_tree.specs.declared.tree.Catch.{Catch, Catch-F, roll-Catch}
 use Rattle.es5_tree.specs.declared.tree.EsExpr.{EsExpr}
 use Rattle.es5_tree.specs.declared.tree.EsKind.{EsKind, EsKind-F, out-EsKind}
 use Rattle.es5_tree.specs.declared.tree.EsKind.TheVariants as kind
 use Rattle.es5_tree.specs.declared.tree.EsStmt.{EsStmt, EsStmt-F, out-EsStmt}
 use Rattle.es5_tree.specs.declared.tree.EsStmt.TheVariants as stmt
 use Rattle.es5_tree.specs.declared.tree.Operator.{Operator}
-use Rattle.es5_tree.specs.Values.{Text, Undefined, Null, Truth, Num, Str}
-use Rattle.es5_evaluation.specs.Task.{Variable, Refers, Return, Throw, Break, Continue, Scope, Evaluate, Refer, Execute, Turn, Task, Done, Ask, ◌>>=◌}
+use Rattle.es5_tree.specs.Values.{Text, Val, Undefined, Null, Truth, Num, Str}
+use Rattle.es5_evaluation.specs.Task.{Variable, Refers, Return, Throw, Break, Continue, Scope, Evaluate, Refer, Execute, Turn, Done, Ask, Enter, ◌>>=◌}
 use Rattle.es5_evaluation.specs.Values.{truthy, negated, binary}
-use Rattle.es5_evaluation.specs.Evaluate.{Layer, Statement, ItsValue, ItsPlace, access, access_at, all, and_then, branch, call_place, call_with, choose, delete_place, eval_node, evaluated, exec_node, gather, gives, initialized, make_array, make_function, make_object, normally, nothing, operated, or_else, perform, read_name, refer_node, referred, tried, turn, type_error, type_of, type_of_place, write_place}
+use Rattle.es5_evaluation.specs.Evaluate.{Layer, Statement, ItsValue, ItsPlace, access, access_at, all, and_then, branch, call_place, call_with, caught_by, choose, delete_place, eval_node, evaluated, exec_node, gather, gives, initialized, make_array, make_function, make_object, normally, nothing, operated, or_else, perform, read_name, refer_node, referred, tried, turn, type_error, type_of, type_of_place, write_place}
 use Rattle.es5_evaluation.proofs.Layers as layer
 
 -- ---- by a layer
@@ -261,3 +261,7 @@ exec_try body catch finally ρ = executes _ (EsStmt-F.Try body catch finally) ρ
 pub exec_empty : (ρ : Scope) → perform (Execute stmt.Empty ρ) ≡ Done nothing
 unfolding exec_node
 exec_empty ρ = executes _ EsStmt-F.Empty ρ layer.out_empty
+
+-- the part of a `try` that takes what was thrown
+pub catches : (part : Catch-F EsKind EsStmt Catch EsExpr) (ρ : Scope) (v : Val) → caught_by (roll-Catch part) ρ v ≡ Enter (record { variables = (part.name, v) ∷ []; constants = []; outer = Some ρ.innermost }) (λ r. all part.body (record { this = ρ.this; innermost = r }))
+catches part ρ v = ap (λ x. Enter (record { variables = (x.name, v) ∷ []; constants = []; outer = Some ρ.innermost }) (λ r. all x.body (record { this = ρ.this; innermost = r }))) (layer.out_catch part)

@@ -5,7 +5,7 @@ ghost use Rattle.es5_objects.specs.Values.{value_of};
 ghost use Rattle.es5_host.specs.Bindings.{bindings, few, place_of, value_at, with_value_at};
 
 use es5_objects::EsValue;
-use indexmap::IndexSet;
+use name_set::NameSet;
 use opal_base::{NoMemory, Units};
 use std::alloc::Global;
 use std::marker::Model;
@@ -26,7 +26,7 @@ const FEW: usize = 8;
 pub struct Bindings {
     items: Vec<Binding>,
     // The names past the first few, by which they are looked up.
-    index: IndexSet<Vec<u16>>,
+    index: NameSet,
 }
 
 /// The names that stand before a script begins, with their values.
@@ -38,12 +38,11 @@ impl Model for Bindings {
 
     ghost Value = { List (Text × Val) };
 
-    ghost use Rattle.es5_objects.specs.Properties.{names};
     ghost use Rattle.es5_host.specs.Bindings.{bindings, few};
 
     ghost view = { λ list. bindings list.items.items };
 
-    ghost invariant = { λ list. names list.index.keys ≡ map (λ b. b.0) (drop few (bindings list.items.items)) };
+    ghost invariant = { λ list. list.index ≡ map (λ b. b.0) (drop few (bindings list.items.items)) };
 }
 
 // The first place of a name.
@@ -62,7 +61,7 @@ impl Bindings {
     {
         Bindings {
             items: Vec::new(alloc),
-            index: IndexSet::new(alloc),
+            index: NameSet::new(alloc),
         }
     }
 
@@ -112,7 +111,7 @@ impl Bindings {
     fn find_past(&self, name: &[u16]) -> Option<usize>
         ensures { result ≡ option_map (λ i. i + few) (place_of (drop few self.now) name.now) }
     {
-        match self.index.get_index_of(name) {
+        match self.index.place(name) {
             Some(i) => Some(i + FEW),
             None => None,
         }
@@ -152,20 +151,13 @@ impl Bindings {
         if self.index.contains(name.as_slice()) {
             return Err(NoMemory);
         }
-        let key = match Vec::from_slice(*self.index.allocator(), name.as_slice()) {
-            Ok(key) => key,
-            Err(_) => return Err(NoMemory),
-        };
-        match self.index.reserve(1) {
+        match self.items.reserve(1) {
             Ok(()) => {}
             Err(_) => return Err(NoMemory),
         }
+        self.index.insert(&name)?;
         match self.items.push(Binding { name, value }) {
-            Ok(()) => {}
-            Err(_) => return Err(NoMemory),
-        }
-        match self.index.insert(key) {
-            Ok(_) => Ok(()),
+            Ok(()) => Ok(()),
             Err(_) => Err(NoMemory),
         }
     }

@@ -15,8 +15,6 @@ mod lines;
 mod made;
 mod object;
 mod present;
-#[cfg(test)]
-mod tests;
 mod text;
 mod values;
 

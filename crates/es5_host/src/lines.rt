@@ -47,9 +47,8 @@ pub fn rest_of(units: &[u16], at: usize) -> &[u16]
 pub fn copy(alloc: Global, units: &[u16]) -> Result<Units, NoMemory>
     ensures { IfOk result (λ text. text ≡ units.now) }
 {
-    let mut items = Vec::new(alloc);
-    match items.extend_from_slice(units) {
-        Ok(()) => Ok(Units::from_vec(items)),
+    match units.to_vec(alloc) {
+        Ok(items) => Ok(Units::from_vec(items)),
         Err(_) => Err(NoMemory),
     }
 }

@@ -107,12 +107,8 @@ fn make_prototypes(alloc: Global, heap: &mut ObjHeap) -> Result<(), NoMemory>
 {
     use Member::Function;
     let base = Some(OBJECT_PROTOTYPE);
-    object(
-        alloc,
-        heap,
-        None,
-        &[(b"hasOwnProperty", Function(HostFn::HasOwnProperty))],
-    )?;
+    let own: [(&[u8], Member); 1] = [(b"hasOwnProperty", Function(HostFn::HasOwnProperty))];
+    object(alloc, heap, None, &own)?;
     object(
         alloc,
         heap,

@@ -9,12 +9,9 @@ use Rattle.opal_base.proofs.Texts.{text_printed_back_is}
 use Rattle.opal_base.specs.Text.{utf8_of}
 use Rattle.opal_base.specs.Shown.{HostCall, Wrote, Ended, Going, Shows, output_of}
 use Rattle.es5_tree.specs.declared.tree.EsKind.TheBlock
-use Rattle.es5_tree.specs.declared.tree.Catch.{Catch}
-use Rattle.es5_tree.specs.declared.tree.EsExpr.{EsExpr, fold-roll-EsExpr}
-use Rattle.es5_tree.specs.declared.tree.EsKind.{EsKind, EsKind-F, out-EsKind, roll-EsKind, map-EsKind, fold-roll-EsKind}
+use Rattle.es5_tree.specs.declared.tree.EsKind.{out-EsKind}
 use Rattle.es5_tree.specs.declared.tree.EsKind.TheVariants as kind
-use Rattle.es5_tree.specs.declared.tree.EsStmt.{EsStmt, EsStmt-F, out-EsStmt, roll-EsStmt, map-EsStmt, fold-roll-EsStmt}
-use Rattle.es5_tree.specs.declared.tree.EsStmt.TheVariants as stmt
+use Rattle.es5_tree.specs.declared.tree.EsStmt.{out-EsStmt}
 use Rattle.es5_tree.specs.Tree.{start}
 use Rattle.es5_tree.specs.Values.{Text, Undefined, find_own}
 use Rattle.es5_tree.specs.Objects.Cells.{own}

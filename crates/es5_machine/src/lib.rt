@@ -5,8 +5,6 @@ mod end;
 mod ending;
 mod machine;
 mod start;
-#[cfg(test)]
-mod tests;
 
 pub use end::RunEnd;
 pub use machine::Machine;

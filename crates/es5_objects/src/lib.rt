@@ -10,8 +10,6 @@ mod kind;
 mod length;
 mod list;
 mod properties;
-#[cfg(test)]
-mod tests;
 mod text;
 mod value;
 

@@ -9,6 +9,9 @@ const DIRECTIVE: &[u8] = b"\"use strict\";\n";
 /// The most steps of a run, where a block doesn't tell others.
 const STEPS: u64 = 1_000_000;
 
+/// How many bytes a sink takes at once, where a block doesn't tell others.
+pub const BYTES_AT_ONCE: usize = 65_536;
+
 /// A script, and what is told of it.
 #[derive(Drop)]
 pub struct Block {
@@ -22,6 +25,12 @@ pub struct Block {
     pub steps: Option<u64>,
     /// How many cells the script makes, where it is told.
     pub cells: Option<u32>,
+    /// The steps of each slice, where slices are told.
+    pub slices: Vec<u64>,
+    /// How many bytes the sink of the slices takes at once.
+    pub bytes_at_once: usize,
+    /// The call of the sink of the slices that fails.
+    pub failing: Option<u64>,
 }
 
 impl Block {
@@ -33,6 +42,9 @@ impl Block {
             budget: STEPS,
             steps: None,
             cells: None,
+            slices: Vec::new(alloc),
+            bytes_at_once: BYTES_AT_ONCE,
+            failing: None,
         };
         put(&mut block.script, DIRECTIVE)?;
         let mut in_heading = true;
@@ -55,7 +67,25 @@ impl Block {
             self.input = input_of(alloc, input)?;
             return Ok(true);
         }
+        if let Some(numbers) = words.strip_prefix("slices ") {
+            self.slices = numbers_of(alloc, numbers)?;
+            return Ok(true);
+        }
+        if let Some(numbers) = words.strip_prefix("sink ") {
+            self.takes_sink(numbers);
+            return Ok(true);
+        }
         Ok(self.takes_counts(words))
+    }
+
+    fn takes_sink(&mut self, numbers: &str) {
+        let (bytes, call) = numbers.split_once(' ').unwrap_or((numbers, ""));
+        if let Ok(bytes) = bytes.parse::<u32>() {
+            self.bytes_at_once = bytes as usize;
+        }
+        if let Ok(call) = call.parse::<u32>() {
+            self.failing = Some(call as u64);
+        }
     }
 
     fn takes_counts(&mut self, words: &str) -> bool {
@@ -93,4 +123,17 @@ fn input_of(alloc: Global, text: &str) -> Result<Units, AllocError> {
         Ok(units) => Ok(units),
         Err(_) => Err(AllocError),
     }
+}
+
+// The numbers that words are.
+fn numbers_of(alloc: Global, words: &str) -> Result<Vec<u64>, AllocError> {
+    let mut numbers = Vec::new(alloc);
+    for word in words.split(' ') {
+        if let Ok(number) = word.parse::<u32>() {
+            if numbers.push(number as u64).is_err() {
+                return Err(AllocError);
+            }
+        }
+    }
+    Ok(numbers)
 }

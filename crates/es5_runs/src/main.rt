@@ -4,7 +4,10 @@
 //! - `// input TEXT`: what `$host.line` reads, with `\n` for a line feed;
 //! - `// budget N`: the most steps, 1,000,000 where it isn't told;
 //! - `// steps N`, `// cells N`, `// steps N cells N`: how many steps the script takes, and how many
-//!   cells it makes.
+//!   cells it makes;
+//! - `// slices N..`: a run in slices of so many steps each, and then only that, with room for as many cells
+//!   as are told; `// sink BYTES`, `// sink BYTES CALL`: its sink takes so many bytes at once, and its call of
+//!   this number from 0 fails.
 //!
 //! The script begins behind these lines. Standard output takes for each block, in the same order, what
 //! the script writes, a line feed, a line that tells its end, and a line `----`. The place of an end
@@ -12,12 +15,15 @@
 //!
 //! Each script is also run in slices of 7 steps and of 1 step, and again behind its end; where steps
 //! or cells are told, with just as many and with one less. What is wrong has a line behind that of the
-//! end: `differs in slices of N`, `not N steps: N`, `not N cells: N`, `ends anew`.
+//! end: `differs in slices of N`, `not N steps: N`, `not N cells: N`, `ends anew`. Of slices that are told
+//! each has a line with what the sink has taken by then, in brackets, and the end of the slice; a last line
+//! tells the steps that were begun.
 #![tactic(auto)]
 
 mod block;
 mod report;
 mod run;
+mod trace;
 
 use crate::block::Block;
 use crate::report::report;

@@ -2,13 +2,11 @@
 
 use crate::block::Block;
 use crate::put;
-use crate::run::{Budget, Outcome, Stop, run};
+use crate::run::{Budget, CELLS, Outcome, Stop, run};
+use crate::trace::trace;
 use opal_base::Bytes;
 use std::alloc::{AllocError, Global};
 use std::fmt;
-
-/// The most cells of a run.
-const CELLS: u32 = 10_000;
 
 /// The slices in which each script is run besides.
 const SLICES: [u64; 2] = [7, 1];
@@ -35,6 +33,9 @@ impl fmt::Display for Fault {
 
 /// The lines that are told of a block.
 pub fn report(alloc: Global, block: &Block) -> Result<Bytes, AllocError> {
+    if !block.slices.is_empty() {
+        return trace(alloc, block);
+    }
     let whole = run(alloc, block, budget_of(block))?;
     let mut out = Bytes::new(alloc);
     put(&mut out, whole.output.as_slice())?;

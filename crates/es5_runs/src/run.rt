@@ -1,6 +1,6 @@
 //! A run of a script, and how it comes out.
 
-use crate::block::Block;
+use crate::block::{BYTES_AT_ONCE, Block};
 use crate::put;
 use es5_host::OutKind;
 use es5_machine::{Machine, RunEnd};
@@ -12,8 +12,8 @@ use std::alloc::{AllocError, Global};
 /// The longest script, in bytes.
 const MOST_BYTES: usize = 1_048_576;
 
-/// How many bytes the sink takes at once.
-const BYTES_AT_ONCE: usize = 65_536;
+/// The most cells of a run.
+pub const CELLS: u32 = 10_000;
 
 /// What bounds a run.
 #[derive(Clone, Copy)]
@@ -52,16 +52,42 @@ pub enum Stop {
     Cells,
 }
 
-/// The run of a block's script, or `AllocError`.
-pub fn run(alloc: Global, block: &Block, budget: Budget) -> Result<Outcome, AllocError> {
+/// The machine of a block's script with room for so many cells, or the place at which it is no script.
+pub fn start(alloc: Global, block: &Block, cells: u32) -> Result<Result<Machine, Pos>, AllocError> {
     let bytes = block.script.as_slice();
     if bytes.len() > MOST_BYTES {
-        return no_script(alloc, Pos { line: 0, col: 0 });
+        return Ok(Err(Pos { line: 0, col: 0 }));
     }
     match read_script(alloc, bytes) {
-        Ok(script) => run_script(alloc, script, &block.input, budget),
-        Err(EsStop::NotScript { pos }) => no_script(alloc, pos),
+        Ok(script) => match start_script(alloc, script, &block.input, cells) {
+            Ok(machine) => Ok(Ok(machine)),
+            Err(AllocError) => Err(AllocError),
+        },
+        Err(EsStop::NotScript { pos }) => Ok(Err(pos)),
         Err(EsStop::NoMemory) => Err(AllocError),
+    }
+}
+
+fn start_script(
+    alloc: Global,
+    script: Script,
+    input: &Units,
+    cells: u32,
+) -> Result<Machine, AllocError> {
+    let Ok(input) = input.try_clone() else {
+        return Err(AllocError);
+    };
+    match Machine::start(alloc, script, input, cells) {
+        Ok(machine) => Ok(machine),
+        Err(_) => Err(AllocError),
+    }
+}
+
+/// The run of a block's script, or `AllocError`.
+pub fn run(alloc: Global, block: &Block, budget: Budget) -> Result<Outcome, AllocError> {
+    match start(alloc, block, budget.cells)? {
+        Ok(machine) => run_machine(alloc, machine, budget),
+        Err(pos) => no_script(alloc, pos),
     }
 }
 
@@ -75,18 +101,8 @@ fn no_script(alloc: Global, pos: Pos) -> Result<Outcome, AllocError> {
     })
 }
 
-fn run_script(
-    alloc: Global,
-    script: Script,
-    input: &Units,
-    budget: Budget,
-) -> Result<Outcome, AllocError> {
-    let Ok(input) = input.try_clone() else {
-        return Err(AllocError);
-    };
-    let Ok(mut machine) = Machine::start(alloc, script, input, budget.cells) else {
-        return Err(AllocError);
-    };
+fn run_machine(alloc: Global, machine: Machine, budget: Budget) -> Result<Outcome, AllocError> {
+    let mut machine = machine;
     let mut sink = MemSink::new(alloc, BYTES_AT_ONCE, Vec::new(alloc));
     let answer = run_in_slices(&mut machine, budget, &mut sink);
     let stop = stop_of(&answer);
@@ -131,8 +147,8 @@ fn stop_of(end: &RunEnd) -> Stop {
     }
 }
 
-// The line that tells an end.
-fn line_of(alloc: Global, end: &RunEnd) -> Result<Bytes, AllocError> {
+/// The line that tells an end.
+pub fn line_of(alloc: Global, end: &RunEnd) -> Result<Bytes, AllocError> {
     let words: &[u8] = match end {
         RunEnd::Uncaught { name, message } => return uncaught_line(alloc, name, message),
         RunEnd::Outside { kind, pos } => return line_with_place(alloc, outside(*kind), *pos),
@@ -173,8 +189,8 @@ fn put_text(alloc: Global, line: &mut Bytes, text: &Units) -> Result<(), AllocEr
     }
 }
 
-// Words with a place, the line from 1 behind the directive and the column from 1.
-fn line_with_place(alloc: Global, words: &str, pos: Pos) -> Result<Bytes, AllocError> {
+/// Words with a place, the line from 1 behind the directive and the column from 1.
+pub fn line_with_place(alloc: Global, words: &str, pos: Pos) -> Result<Bytes, AllocError> {
     let line = pos.line;
     let column = pos.col as u64 + 1;
     let text = format!(in alloc; "{words} at {line}:{column}\n")?;

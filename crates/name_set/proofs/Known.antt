@@ -1,7 +1,7 @@
 -- What a set of names holds.
-use Rattle.std.proofs.Common.{◌≡◌, ℕ, suc, ◌+◌, Bool, true, false, ◌||◌, if◌then◌else◌, List, [], ◌∷◌, ◌++◌, drop, not, Some, slice_get, bytes_eq, refl, sym, ap, ◌∙◌, arith, Vec, Global}
-use Rattle.std.proofs.lemmas.List.{map-append}
-use Rattle.std.specs.List.{list_any}
+use Rattle.std.proofs.Common.{◌≡◌, ℕ, suc, ◌+◌, Bool, true, false, ◌||◌, if◌then◌else◌, List, [], ◌∷◌, ◌++◌, drop, not, cond, length, nat_lt, Some, None, slice_get, bytes_eq, refl, sym, ap, ◌∙◌, arith, Vec, Global}
+use Rattle.std.proofs.lemmas.List.{map-append, length-map}
+use Rattle.std.specs.List.{list_any, position, position_or_len}
 use Rattle.std.proofs.Math.Seq.{drop-cons}
 use Rattle.std.proofs.lemmas.List.Folds.{list_any-append}
 use Rattle.std.proofs.lemmas.Slice.Eq.{bytes_eq-Decides}
@@ -37,6 +37,16 @@ inserted key keys name e =
 
 pub told : (key : Key) (keys : List Key) (name : Name) → name_of key ≡ name → not (list_any (λ k. bytes_eq (name_of key) (name_of k)) keys) ≡ not (list_any (bytes_eq name) (names keys))
 told key keys name e = ap not (found (name_of key) keys ∙ ap (λ n. list_any (bytes_eq n) (names keys)) e)
+
+same_front : (name : Name) (keys : List Key) → position_or_len (λ k. bytes_eq name (name_of k)) keys ≡ position_or_len (bytes_eq name) (names keys)
+same_front name [] = refl
+same_front name (k ∷ ks) = ap (λ n. if not (bytes_eq name (name_of k)) then 1 + n else 0) (same_front name ks)
+
+-- and at the same place
+pub placed : (name : Name) (keys : List Key) → position (λ k. bytes_eq name (name_of k)) keys ≡ position (bytes_eq name) (names keys)
+placed name keys =
+    ap (λ n. cond (nat_lt n (length keys)) (Some n) None) (same_front name keys)
+    ∙ ap (λ m. cond (nat_lt (position_or_len (bytes_eq name) (names keys)) m) (Some (position_or_len (bytes_eq name) (names keys))) None) (sym (length-map keys name_of))
 
 -- ---- known names
 

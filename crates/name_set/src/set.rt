@@ -1,4 +1,5 @@
-ghost use Rattle.std.specs.Prelude.{◌≡◌, [], ◌∷◌, ◌++◌, List, ℕ, not, IfOk, OnOk};
+ghost use Rattle.std.specs.Prelude.{◌≡◌, [], ◌∷◌, ◌++◌, List, ℕ, not, bytes_eq, IfOk, OnOk, OnErr};
+ghost use Rattle.std.specs.List.{position};
 ghost use Rattle.name_set.specs.Names.{has, with_new};
 
 use indexmap::IndexSet;
@@ -49,10 +50,18 @@ impl NameSet {
         self.index.contains(name)
     }
 
+    /// The place of a name among them, from 0.
+    pub fn place(&self, name: &[u16]) -> Option<usize>
+        ensures { result ≡ position (bytes_eq name.now) self.now }
+    {
+        self.index.get_index_of(name)
+    }
+
     /// Puts a name at the end, unless it is among them, and tells whether it was put.
     pub fn insert(&mut self, name: &Units) -> Result<bool, NoMemory>
         ensures new { IfOk result (λ new. new ≡ not (has self.old name.now)) }
         ensures names { OnOk result (self.new ≡ with_new self.old name.now self.old) }
+        ensures unchanged { OnErr result (self.new ≡ self.old) }
     {
         let key = match Vec::from_slice(*self.index.allocator(), name.as_slice()) {
             Ok(key) => key,

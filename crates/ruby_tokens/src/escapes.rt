@@ -1,5 +1,7 @@
 //! Bytes in lines of printable characters.
 
+ghost use Rattle.std.specs.Prelude.{◌<◌};
+
 use std::alloc::{AllocError, Global};
 
 /// The bytes of a text in which `\n` stands for a line feed, `\xHH` for the byte of two
@@ -30,7 +32,7 @@ fn first(bytes: &[u8]) -> Option<(u8, &[u8])> {
 
 /// A hexadecimal digit; 0 for another byte.
 fn digit(byte: u8) -> u8
-    ensures below { result.now < 16 }
+    ensures below { result < 16 }
 {
     match byte {
         b'0'..=b'9' => byte - b'0',

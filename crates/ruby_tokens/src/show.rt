@@ -76,5 +76,8 @@ fn push_place(line: &mut String, token: &Token) -> Done {
     let (last_row, last_col) = (token.end.line, token.end.col);
     let before = if token.blank_before { "_" } else { "" };
     let behind = if token.blank_after { "_" } else { "" };
-    write!(line, "{before}{from}-{to}@{row}:{col}-{last_row}:{last_col}{behind};")
+    write!(
+        line,
+        "{before}{from}-{to}@{row}:{col}-{last_row}:{last_col}{behind};"
+    )
 }

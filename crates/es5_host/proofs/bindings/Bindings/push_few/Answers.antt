@@ -7,4 +7,4 @@ use Rattle.es5_host.proofs.bindings.Bindings.push_few.Goals as goal
 pub invariant_of-self : goal.invariant_of-self
 invariant_of-self c =
     let lt : length c.self.inside.items.items < few = omega (arith, ap length c.self.view_is, length-map c.self.inside.items.items binding, c.requires) in
-    still_few (is_ok c.push.result) c.self.inside.items.items c.push.new.self.items _ c.self.inside.index.keys lt c.push.ensures.items c.self.invariant
+    still_few (is_ok c.push.result) c.self.inside.items.items c.push.new.self.items _ c.self.inside.index lt c.push.ensures.items c.self.invariant
