@@ -1,0 +1,4 @@
+pub mod Moments
+pub mod Steps
+pub mod Expressions
+pub mod Statements
