@@ -52,42 +52,23 @@ pub enum Stop {
     Cells,
 }
 
-/// The machine of a block's script with room for so many cells, or the place at which it is no script.
-pub fn start(alloc: Global, block: &Block, cells: u32) -> Result<Result<Machine, Pos>, AllocError> {
+/// The script of a block.
+pub fn script_of(alloc: Global, block: &Block) -> Result<Script, EsStop> {
     let bytes = block.script.as_slice();
     if bytes.len() > MOST_BYTES {
-        return Ok(Err(Pos { line: 0, col: 0 }));
+        return Err(EsStop::NotScript {
+            pos: Pos { line: 0, col: 0 },
+        });
     }
-    match read_script(alloc, bytes) {
-        Ok(script) => match start_script(alloc, script, &block.input, cells) {
-            Ok(machine) => Ok(Ok(machine)),
-            Err(AllocError) => Err(AllocError),
-        },
-        Err(EsStop::NotScript { pos }) => Ok(Err(pos)),
-        Err(EsStop::NoMemory) => Err(AllocError),
-    }
-}
-
-fn start_script(
-    alloc: Global,
-    script: Script,
-    input: &Units,
-    cells: u32,
-) -> Result<Machine, AllocError> {
-    let Ok(input) = input.try_clone() else {
-        return Err(AllocError);
-    };
-    match Machine::start(alloc, script, input, cells) {
-        Ok(machine) => Ok(machine),
-        Err(_) => Err(AllocError),
-    }
+    read_script(alloc, bytes)
 }
 
 /// The run of a block's script, or `AllocError`.
 pub fn run(alloc: Global, block: &Block, budget: Budget) -> Result<Outcome, AllocError> {
-    match start(alloc, block, budget.cells)? {
-        Ok(machine) => run_machine(alloc, machine, budget),
-        Err(pos) => no_script(alloc, pos),
+    match script_of(alloc, block) {
+        Ok(script) => run_script(alloc, script, &block.input, budget),
+        Err(EsStop::NotScript { pos }) => no_script(alloc, pos),
+        Err(EsStop::NoMemory) => Err(AllocError),
     }
 }
 
@@ -101,8 +82,18 @@ fn no_script(alloc: Global, pos: Pos) -> Result<Outcome, AllocError> {
     })
 }
 
-fn run_machine(alloc: Global, machine: Machine, budget: Budget) -> Result<Outcome, AllocError> {
-    let mut machine = machine;
+fn run_script(
+    alloc: Global,
+    script: Script,
+    input: &Units,
+    budget: Budget,
+) -> Result<Outcome, AllocError> {
+    let Ok(input) = input.try_clone() else {
+        return Err(AllocError);
+    };
+    let Ok(mut machine) = Machine::start(alloc, script, input, budget.cells) else {
+        return Err(AllocError);
+    };
     let mut sink = MemSink::new(alloc, BYTES_AT_ONCE, Vec::new(alloc));
     let answer = run_in_slices(&mut machine, budget, &mut sink);
     let stop = stop_of(&answer);

@@ -2,22 +2,38 @@
 
 use crate::block::Block;
 use crate::put;
-use crate::run::{CELLS, line_of, line_with_place, start};
+use crate::run::{CELLS, line_of, line_with_place, script_of};
 use es5_machine::Machine;
+use es5_tree::{EsStop, Script};
 use opal_base::{Bytes, MemSink};
 use std::alloc::{AllocError, Global};
 
 /// Lines that tell of a block's slices: what the sink has taken behind each, with its end, and at last the
 /// steps that were begun.
 pub fn trace(alloc: Global, block: &Block) -> Result<Bytes, AllocError> {
-    let mut out = Bytes::new(alloc);
-    let mut machine = match start(alloc, block, block.cells.unwrap_or(CELLS))? {
-        Ok(machine) => machine,
-        Err(pos) => return line_with_place(alloc, "not a script", pos),
+    match script_of(alloc, block) {
+        Ok(script) => trace_script(alloc, script, block),
+        Err(EsStop::NotScript { pos }) => line_with_place(alloc, "not a script", pos),
+        Err(EsStop::NoMemory) => Err(AllocError),
+    }
+}
+
+fn trace_script(alloc: Global, script: Script, block: &Block) -> Result<Bytes, AllocError> {
+    let Ok(input) = block.input.try_clone() else {
+        return Err(AllocError);
     };
+    let cells = block.cells.unwrap_or(CELLS);
+    let Ok(mut machine) = Machine::start(alloc, script, input, cells) else {
+        return Err(AllocError);
+    };
+    trace_machine(alloc, &mut machine, block)
+}
+
+fn trace_machine(alloc: Global, machine: &mut Machine, block: &Block) -> Result<Bytes, AllocError> {
+    let mut out = Bytes::new(alloc);
     let mut sink = sink_of(alloc, block)?;
     for steps in &block.slices {
-        put_slice(alloc, &mut out, &mut machine, *steps, &mut sink)?;
+        put_slice(alloc, &mut out, machine, *steps, &mut sink)?;
     }
     let steps = machine.steps_begun();
     let line = format!(in alloc; "{steps} steps\n")?;

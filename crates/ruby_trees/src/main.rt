@@ -56,7 +56,7 @@ enum Asked {
 }
 
 // What a row asks for, and its text.
-fn asked(row: &str) -> (Asked, &str) {
+fn read_row(row: &str) -> (Asked, &str) {
     if let Some(text) = row.strip_prefix("spans\n") {
         return (Asked::Spans, text);
     }
@@ -74,7 +74,7 @@ fn asked(row: &str) -> (Asked, &str) {
 
 // The line of a row.
 fn line_of(alloc: Global, row: &str) -> Result<String, AllocError> {
-    let (asked, text) = asked(row);
+    let (asked, text) = read_row(row);
     match told(alloc, asked, text) {
         Ok(line) => Ok(line),
         Err(Stop::Refused { pos, construct }) => refusal(alloc, pos, construct),
