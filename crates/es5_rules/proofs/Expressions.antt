@@ -1,23 +1,19 @@
 -- The value or the place of each form of expression, by its parts.
-use Rattle.std.proofs.Common.{◌≡◌, ℕ, ℤ, zero, suc, ◌+◌, true, false, List, [], ◌∷◌, ◌++◌, length, Option, Some, None, codes, refl, sym, ap, ◌∙◌, arith, append_assoc, append-nil}
-use Rattle.std.specs.Prelude.{not}
+use Rattle.std.proofs.Common.{◌≡◌, ℕ, ℤ, ◌+◌, true, false, List, [], ◌++◌, Some, codes, refl, ap, ◌∙◌, arith, append-nil}
+use Rattle.std.specs.Prelude.{not, if◌then◌else◌}
 use Rattle.opal_base.specs.declared.place.Pos.{Pos}
 use Rattle.es5_tree.specs.declared.tree.EsExpr.{EsExpr}
 use Rattle.es5_tree.specs.declared.tree.EsKind.TheVariants as kind
-use Rattle.es5_tree.specs.declared.tree.EsStmt.{EsStmt}
 use Rattle.es5_tree.specs.declared.tree.Operator.{Operator}
-use Rattle.es5_tree.specs.Values.{Text, Val, Undefined, Null, Truth, Num, Str, Obj}
+use Rattle.es5_tree.specs.Values.{Text, Val, Null, Truth, Num, Str}
 use Rattle.es5_evaluation.specs.State.{State, record_at, binding, has_variable, value_in, with_variable}
-use Rattle.es5_evaluation.specs.Task.{Completion, Normal, Refers, Place, Variable, Property, Scope, Request, Evaluate, Refer, Task, Done, Ask, Look, Store, ◌>>=◌, with_stored}
+use Rattle.es5_evaluation.specs.Task.{Completion, Normal, Refers, Place, Variable, Property, Scope, Request, Evaluate, Refer, Task, Done, Ask, Store, ◌>>=◌, with_stored}
 use Rattle.es5_evaluation.specs.Values.{Is, truthy, negated, binary, holder_of, or_undefined, property_from}
-use Rattle.es5_evaluation.specs.Evaluate.{ItsValue, ItsPlace, access, and_then, choose, gives, normally, operated, or_else, perform, place_from, read_bound, read_from, read_name, read_property, referred, type_error, write_bound, write_name, write_place}
-use Rattle.es5_evaluation.specs.Run.{run}
+use Rattle.es5_evaluation.specs.Evaluate.{access, and_then, choose, gives, normally, operated, or_else, perform, place_from, read_bound, read_from, read_name, read_property, referred, type_error, write_bound, write_name, write_place}
 use Rattle.es5_evaluation.proofs.Tasks.{done_then}
-use Rattle.es5_evaluation.proofs.TaskRuns.{run_starves, run_asks}
 use Rattle.es5_evaluation.proofs.Nodes as node
-use Rattle.es5_rules.specs.Moments.{moments}
 use Rattle.es5_rules.specs.Steps.{Steps, Gives, Places}
-use Rattle.es5_rules.proofs.Steps.{steps_none, steps_refl, steps_trans, steps_count, steps_seen, steps_from, steps_to, steps_begin, steps_look, steps_store}
+use Rattle.es5_rules.proofs.Steps.{steps_refl, steps_trans, steps_count, steps_seen, steps_from, steps_to, steps_begin, steps_look, steps_store}
 
 -- ---- parts
 
@@ -43,17 +39,21 @@ gives_leaf s {v} h = record { by = λ k. steps_to (done_then (Normal v) k) (step
 -- one that makes a value of that of a part
 pub gives_one : {e a : EsExpr} {ρ : Scope} {f : Val → Task} {s z : State} {m : ℕ} {v w : Val} {vs : List State} → perform (Evaluate e ρ) ≡ Ask (Evaluate a ρ) (normally f) → Gives a ρ s m v z vs → f v ≡ gives w → Gives e ρ s (1 + m) w z vs
 unfolding ◌>>=◌
-gives_one {m = m} {w = w} {vs = vs} h a i = record { by = λ k.
-  steps_seen (append-nil vs) (steps_count (1 + (m + 0)) (1 + m) (omega arith)
-    (value_then k h a (steps_from (ap (λ t. t >>= k) i) steps_refl))) }
+gives_one {m = m} {w = w} {vs = vs} h a i = record {
+  by = λ k.
+      steps_seen (append-nil vs) (steps_count (1 + (m + 0)) (1 + m) (omega arith)
+      (value_then k h a (steps_from (ap (λ t. t >>= k) i) steps_refl)));
+}
 
 -- and of those of two parts
 pub gives_two : {e a b : EsExpr} {ρ : Scope} {f : Val → Val → Task} {s y z : State} {m n : ℕ} {v w u : Val} {vs ws : List State} → perform (Evaluate e ρ) ≡ Ask (Evaluate a ρ) (normally (λ x. Ask (Evaluate b ρ) (normally (f x)))) → Gives a ρ s m v y vs → Gives b ρ y n w z ws → f v w ≡ gives u → Gives e ρ s (1 + (m + n)) u z (vs ++ ws)
 unfolding ◌>>=◌
-gives_two {f = f} {n = n} {v = v} {ws = ws} h a b i = record { by = λ k.
-  value_then k h a
-    (steps_seen (append-nil ws) (steps_count (n + 0) n (omega arith)
-      (steps_trans (b.by (λ c. normally (f v) c >>= k)) (steps_from (ap (λ t. t >>= k) i) steps_refl)))) }
+gives_two {f = f} {n = n} {v = v} {ws = ws} h a b i = record {
+  by = λ k.
+      value_then k h a
+      (steps_seen (append-nil ws) (steps_count (n + 0) n (omega arith)
+      (steps_trans (b.by (λ c. normally (f v) c >>= k)) (steps_from (ap (λ t. t >>= k) i) steps_refl))));
+}
 
 -- ---- literals
 
@@ -89,15 +89,17 @@ unfolding write_name ◌>>=◌
 steps_write r x b v k s e f =
     steps_count (0 + 0) 0 (omega arith)
     (steps_trans
-      (steps_to
-        (ap (λ o. write_bound s.records o x v >>= k) e
-          ∙ ap (λ t. (if t then Store b (with_variable (record_at s.records b) x v) (gives v) else type_error (codes "not writable")) >>= k) f)
-        (steps_look (λ z. write_bound z.records (binding z.records r x) x v >>= k) s))
-      (steps_store b (with_variable (record_at s.records b) x v) (k (Normal v)) s))
+    (steps_to
+    (ap (λ o. write_bound s.records o x v >>= k) e
+    ∙ ap (λ t. (if t then Store b (with_variable (record_at s.records b) x v) (gives v) else type_error (codes "not writable")) >>= k) f)
+    (steps_look (λ z. write_bound z.records (binding z.records r x) x v >>= k) s))
+    (steps_store b (with_variable (record_at s.records b) x v) (k (Normal v)) s))
 
 pub gives_name : (e : EsExpr) (x : Text) (ρ : Scope) (s : State) (b : ℕ) (v : Val) → e.kind ≡ kind.Name x → binding s.records ρ.innermost x ≡ Some b → value_in (record_at s.records b) x ≡ Some v → Gives e ρ s 1 v s []
-gives_name e x ρ s b v h i j = record { by = λ k.
-  steps_count (1 + 0) 1 (omega arith) (steps_trans (steps_begin k (node.eval_name e x ρ h)) (steps_name ρ.innermost x b v k s i j)) }
+gives_name e x ρ s b v h i j = record {
+  by = λ k.
+      steps_count (1 + 0) 1 (omega arith) (steps_trans (steps_begin k (node.eval_name e x ρ h)) (steps_name ρ.innermost x b v k s i j));
+}
 
 -- the place of a name is the name
 pub places_name : (e : EsExpr) (x : Text) (ρ : Scope) (s : State) → e.kind ≡ kind.Name x → Places e ρ s 1 (Variable x) s []
@@ -107,11 +109,13 @@ places_name e x ρ s h = record { by = λ k. steps_to (done_then (Refers (Variab
 pub gives_assign : (e target a : EsExpr) (x : Text) (ρ : Scope) (s z : State) (b m : ℕ) (v : Val) (vs : List State) → e.kind ≡ kind.Assign target a → target.kind ≡ kind.Name x → Gives a ρ s m v z vs → binding z.records ρ.innermost x ≡ Some b → has_variable (record_at z.records b) x ≡ true
     → Gives e ρ s (2 + m) v (with_stored z b (with_variable (record_at z.records b) x v)) vs
 unfolding ◌>>=◌ write_place
-gives_assign e target a x ρ s z b m v vs h t g i j = record { by = λ k.
-  steps_seen (append-nil vs) (steps_count (1 + (1 + (m + 0))) (2 + m) (omega arith)
-    (place_then k (node.eval_assign e target a ρ h) (places_name target x ρ s t)
+gives_assign e target a x ρ s z b m v vs h t g i j = record {
+  by = λ k.
+      steps_seen (append-nil vs) (steps_count (1 + (1 + (m + 0))) (2 + m) (omega arith)
+      (place_then k (node.eval_assign e target a ρ h) (places_name target x ρ s t)
       (steps_trans (g.by (λ c. normally (write_place e.pos ρ.innermost (Variable x)) c >>= k))
-        (steps_write ρ.innermost x b v k z i j)))) }
+      (steps_write ρ.innermost x b v k z i j))));
+}
 
 -- ---- properties
 
@@ -122,15 +126,19 @@ steps_property v name o k s e = steps_from (ap (λ h. read_from h v name >>= k) 
 
 pub gives_member : (e base : EsExpr) (name : Text) (mark : Pos) (ρ : Scope) (s z : State) (m o : ℕ) (v : Val) (vs : List State) → e.kind ≡ kind.Member base name mark → Gives base ρ s m v z vs → holder_of v ≡ Some o → Gives e ρ s (1 + m) (property_from z.heap o v name) z vs
 unfolding access
-gives_member e base name mark ρ s z m o v vs h a i = record { by = λ k.
-  steps_seen (append-nil vs) (steps_count (1 + (m + 0)) (1 + m) (omega arith)
-    (value_then k (node.eval_member e base name mark ρ h) a (steps_property v name o k z i))) }
+gives_member e base name mark ρ s z m o v vs h a i = record {
+  by = λ k.
+      steps_seen (append-nil vs) (steps_count (1 + (m + 0)) (1 + m) (omega arith)
+      (value_then k (node.eval_member e base name mark ρ h) a (steps_property v name o k z i)));
+}
 
 pub places_member : (e base : EsExpr) (name : Text) (mark : Pos) (ρ : Scope) (s z : State) (m o : ℕ) (v : Val) (vs : List State) → e.kind ≡ kind.Member base name mark → Gives base ρ s m v z vs → holder_of v ≡ Some o → Places e ρ s (1 + m) (Property v name) z vs
 unfolding access ◌>>=◌
-places_member e base name mark ρ s z m o v vs h a i = record { by = λ k.
-  steps_seen (append-nil vs) (steps_count (1 + (m + 0)) (1 + m) (omega arith)
-    (value_then k (node.refer_member e base name mark ρ h) a (steps_from (ap (λ t. place_from t v name >>= k) i) steps_refl))) }
+places_member e base name mark ρ s z m o v vs h a i = record {
+  by = λ k.
+      steps_seen (append-nil vs) (steps_count (1 + (m + 0)) (1 + m) (omega arith)
+      (value_then k (node.refer_member e base name mark ρ h) a (steps_from (ap (λ t. place_from t v name >>= k) i) steps_refl)));
+}
 
 -- ---- operators
 

@@ -1,5 +1,5 @@
 -- The states before calls of the host: of one task after another, and what each form of task adds to them.
-use Rattle.std.proofs.Common.{◌≡◌, ℕ, zero, suc, List, [], ◌∷◌, ◌++◌, length, refl, sym, ap, ◌∙◌}
+use Rattle.std.proofs.Common.{◌≡◌, ℕ, zero, suc, ◌∷◌, ◌++◌, length, refl, sym, ap, ◌∙◌}
 use Rattle.es5_tree.specs.Values.{Text}
 use Rattle.es5_tree.specs.Objects.Cells.{Cell}
 use Rattle.es5_evaluation.specs.State.{Code, Activation, State}

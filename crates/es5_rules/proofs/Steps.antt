@@ -1,6 +1,6 @@
 -- How steps compose, and the step of each form of task.
-use Rattle.std.proofs.Common.{◌≡◌, ℕ, suc, ◌+◌, List, [], ◌∷◌, ◌++◌, length, refl, sym, ap, ◌∙◌, subst, arith, append_assoc, append-nil}
-use Rattle.es5_tree.specs.Values.{Text, Val}
+use Rattle.std.proofs.Common.{◌≡◌, ℕ, suc, ◌+◌, List, [], ◌∷◌, ◌++◌, length, refl, sym, ap, ◌∙◌, subst, arith, append_assoc}
+use Rattle.es5_tree.specs.Values.{Text}
 use Rattle.es5_tree.specs.Objects.Cells.{Cell}
 use Rattle.es5_evaluation.specs.State.{Code, Activation, State}
 use Rattle.es5_evaluation.specs.Task.{Completion, Request, Task, Done, Ask, Look, Set, Make, Keep, Enter, Store, Print, Read, ◌>>=◌, with_object, with_new, with_code, with_record, with_stored, printed, has_read}
@@ -48,7 +48,7 @@ pub steps_then : {t u : Task} {s z : State} {m : ℕ} {vs : List State} (k : Com
 steps_then {t} {u} {s} {z} {m} {vs} k a = record {
   runs = λ g j i. run_then g t k s ∙ ap (λ o. behind o (run_on k)) (a.runs g j i) ∙ sym (run_then j u k z);
   sees = λ g j i.
-    moments_then g t k s
+      moments_then g t k s
       ∙ ap (λ l. l ++ moments_on k (run g t s)) (a.sees g j i)
       ∙ ap (λ o. (vs ++ moments j u z) ++ moments_on k o) (a.runs g j i)
       ∙ append_assoc vs (moments j u z) (moments_on k (run j u z))
