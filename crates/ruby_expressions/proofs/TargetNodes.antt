@@ -3,8 +3,7 @@ use Rattle.std.proofs.Common.{◌≡◌, ℕ, Bool, true, false, Option, Some, N
 use Rattle.std.specs.Prelude.{is_some, if◌then◌else◌}
 use Rattle.ruby_meaning.specs.declared.tree.Node.{Node}
 use Rattle.ruby_meaning.specs.Grammar.Actions as act
-use Rattle.ruby_expressions.specs.Assignments.{may_be_set, place_of}
-use Rattle.ruby_expressions.specs.TargetSteps.{target_at, target_kind}
+use Rattle.ruby_expressions.specs.Assignments.{may_be_set, place_of, target_at, target_kind}
 
 by_place : (q : Option act.Place) (n : Node) → act.make (target_at q n.kind) n.span n.mark ≡ act.name_target q n
 by_place None n = refl

@@ -83,12 +83,23 @@ operator t = act.operator_of_kind t.token.kind
 abbrev pub place_of : Kind → Option act.Place
 place_of k = act.place_in (out-Kind k)
 
+-- what can be set, as a target: a name is a local there
+abbrev pub target_at : Option act.Place → Kind → Kind
+target_at (Some (act.local name)) k = kind.LocalGet name
+target_at _ k = k
+
+abbrev pub target_kind : Kind → Kind
+target_kind k = target_at (place_of k) k
+
+abbrev pub as_target : Node → Node
+as_target target = act.make (target_kind target.kind) target.span target.mark
+
 abbrev pub short_kind : Bool → Node → Node → Kind
 short_kind or target set = if or then kind.Or target set else kind.And target set
 
 abbrev pub short_circuited : Node → Seen → Node × ℕ → Bool → Node × ℕ
 short_circuited target sign value or =
-    (act.make (short_kind or target (act.make (set_kind target.kind value.0) (act.nodes target value.0) target.mark)) (act.nodes target value.0) (act.start sign), act.ended value.1)
+    (act.make (short_kind or (as_target target) (act.make (set_kind target.kind value.0) (act.nodes target value.0) target.mark)) (act.nodes target value.0) (act.start sign), act.ended value.1)
 
 abbrev pub combined : Node → Seen → Node × ℕ → Operator → Node × ℕ
 combined target sign value op =

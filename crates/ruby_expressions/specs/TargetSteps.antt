@@ -20,16 +20,6 @@ use Rattle.ruby_meaning.specs.Grammar.Table.{table}
 use Rattle.ruby_expressions.specs.declared.targets.Target.{Target}
 use Rattle.ruby_expressions.specs.declared.targets.Targets.{Targets}
 use Rattle.ruby_reading.specs.Ahead.{class_code}
-use Rattle.ruby_expressions.specs.Assignments.{place_of}
-
--- ---- the form of a target
-
-abbrev pub target_at : Option act.Place → Kind → Kind
-target_at (Some (act.local name)) k = kind.LocalGet name
-target_at _ k = k
-
-abbrev pub target_kind : Kind → Kind
-target_kind k = target_at (place_of k) k
 
 -- a set of several targets, from the span of the first one on
 abbrev pub multi_set : Span → List Node × Node → Node

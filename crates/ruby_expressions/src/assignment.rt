@@ -248,6 +248,33 @@ fn set_variable(alloc: Global, target: &Kind, value: Node) -> Result<Kind, Fail>
     }
 }
 
+/// The form of what can be set as a target: a name is a local there.
+pub fn target_kind(alloc: Global, kind: Kind) -> Result<Kind, Fail>
+    requires { spec.can_be_set kind ≡ true }
+    ensures { Makes (spec.target_kind kind) result }
+{
+    match kind {
+        Kind::Call {
+            receiver,
+            name,
+            args,
+            block,
+            marked,
+        } => match receiver {
+            Some(receiver) => Ok(Kind::Call {
+                receiver: Some(receiver),
+                name,
+                args,
+                block,
+                marked,
+            }),
+            None => Ok(Kind::LocalGet(name)),
+        },
+        Kind::Reraise => Ok(Kind::LocalGet(ascii(alloc, b"raise")?)),
+        other => Ok(other),
+    }
+}
+
 /// A variable like this one.
 fn copied_variable(alloc: Global, target: &Kind) -> Result<Kind, Fail>
     requires { spec.is_variable_kind target.now ≡ true }
@@ -296,7 +323,10 @@ fn short_circuited(
     let span = nodes(&target, &value.node);
     let set = set_variable(alloc, target.kind.get(), value.node)?;
     let set = Boxed::new(alloc, node(alloc, set, span, target.mark)?)?;
-    let target = Boxed::new(alloc, target)?;
+    let target_span = target.span;
+    let mark = target.mark;
+    let kind = target_kind(alloc, target.kind.into_inner())?;
+    let target = Boxed::new(alloc, node(alloc, kind, target_span, mark)?)?;
     let kind = if or {
         Kind::Or(target, set)
     } else {

@@ -5,17 +5,16 @@ ghost use Rattle.ruby_meaning.specs.Grammar.Actions as act;
 ghost use Rattle.ruby_meaning.specs.Grammar.Statements as s;
 ghost use Rattle.descent.specs.Gives.{Gives};
 ghost use Rattle.ruby_reading.specs.Ahead.{ahead, Makes};
-ghost use Rattle.ruby_expressions.specs.Assignments.{can_be_set};
 ghost use Rattle.ruby_reading.specs.Named.{Nests, ReadsNode};
 ghost use Rattle.ruby_reading.specs.Shown.{shown_value};
 ghost use Rattle.ruby_expressions.specs.TargetSteps as spec;
 
-use crate::assignment::is_place;
+use crate::assignment::{is_place, target_kind};
 use descent::Fail;
 use opal_base::Span;
 use ruby_meaning::{Kind, Mark, Node, Nodes, Part, Sign};
 use ruby_operands::post;
-use ruby_reading::{Cursor, Parser, Reading, Tree, Value, ascii, from_token, node, start, to_end};
+use ruby_reading::{Cursor, Parser, Reading, Tree, Value, from_token, node, start, to_end};
 use sqlite_items::{Boxed, Items};
 use std::alloc::Global;
 
@@ -32,33 +31,6 @@ pub struct Target {
 pub struct Targets {
     pub all: Nodes,
     pub value: Node,
-}
-
-/// The form of what can be set as a target: a name is a local there.
-fn target_kind(alloc: Global, kind: Kind) -> Result<Kind, Fail>
-    requires { can_be_set kind ≡ true }
-    ensures { Makes (spec.target_kind kind) result }
-{
-    match kind {
-        Kind::Call {
-            receiver,
-            name,
-            args,
-            block,
-            marked,
-        } => match receiver {
-            Some(receiver) => Ok(Kind::Call {
-                receiver: Some(receiver),
-                name,
-                args,
-                block,
-                marked,
-            }),
-            None => Ok(Kind::LocalGet(name)),
-        },
-        Kind::Reraise => Ok(Kind::LocalGet(ascii(alloc, b"raise")?)),
-        other => Ok(other),
-    }
 }
 
 /// What can be set as a target.

@@ -3,9 +3,6 @@ pub mod Depth
 pub mod Lexing
 pub mod Grammar
 pub mod Scoping
-pub mod State
-pub mod Eval
-pub mod Run
 pub mod Puts
 pub mod Load
 pub mod Laws

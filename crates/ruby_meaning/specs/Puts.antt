@@ -1,12 +1,24 @@
 -- Programs that write texts one after the other: calls of `puts` with one text, and such nodes in sequence. The front end
 -- lets no other program through yet.
-use Rattle.std.specs.Prelude.{Bool, true, false, ◌&&◌, is_some, is_none, List, [], ◌∷◌, Option, Some, None, codes, bytes_eq, option_to_list, ⊤}
+use Rattle.std.specs.Prelude.{ℕ, ◌==◌, if◌then◌else◌, ◌++◌, Bool, true, false, ◌&&◌, is_some, is_none, List, [], ◌∷◌, Option, Some, None, codes, bytes_eq, option_to_list, ⊤}
 use Rattle.std.specs.List.{flat_map}
 use Rattle.ruby_meaning.specs.declared.tree.Base.TheOpen.{Kind-F}
 use Rattle.ruby_meaning.specs.declared.tree.Base.TheFolds.{fold-Kind, fold-Node}
 use Rattle.ruby_meaning.specs.declared.tree.Kind.{Kind}
 use Rattle.ruby_meaning.specs.declared.tree.Node.{Node}
-use Rattle.ruby_meaning.specs.State.{Text}
+
+-- a text: its units
+abbrev pub Text : Type 0
+Text = List ℕ
+
+abbrev pub ends_line : Text → Bool
+ends_line [] = false
+ends_line (unit ∷ []) = unit == 10
+ends_line (unit ∷ more ∷ text) = ends_line (more ∷ text)
+
+-- what `puts` writes of a text: it ends with a line feed
+abbrev pub puts_text : Text → Text
+puts_text text = if ends_line text then text else text ++ 10 ∷ []
 
 -- The text that a node is; whether it is such a call or sequence; and the texts that it then writes.
 pub record Putting : Type 0 where

@@ -24,7 +24,7 @@ pub use form::{
     Bracket, Class, Ending, Form, MethodPlace, Mode, Opener, Place, Reserved, Spelling, Stand,
 };
 pub use grammar_laws::{beginnings_are_fronts, one_program, one_token_tells};
-pub use laws::{one_load, only_puts, puts_in_turn, runs};
+pub use laws::{one_load, only_puts};
 pub use open_texts::OpenTexts;
 pub use production::{Part, Production, Sign, Stage};
 pub use scope::{

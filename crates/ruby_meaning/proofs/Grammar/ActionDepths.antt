@@ -543,12 +543,19 @@ update_deep op t place target value h e = by op
     set_is (act.constant name) h v w = absurd (true≢false (sym h))
     set_is (act.attribute_of receiver name args) h v w = absurd (true≢false (sym h))
 
+    named : (place : act.Place) → depth_of (act.name_target (Some place) target) ≡ 1
+    named (act.local name) = d.depth_local_get name target.span target.mark
+    named (act.ivar name) = e
+    named (act.global name) = e
+    named (act.constant name) = e
+    named (act.attribute_of receiver name args) = e
+
     call : (o : Operator) → depth_of (act.set_to place target (act.combined o t target value) value) ≡ suc (suc (depth_of value))
     call o = omega (arith, set_is place h (act.combined o t target value) value, d.depth_call (Some target) (act.method_of_operator o) (value ∷ []) None None (act.nodes target value) (act.start t), e, some_level value)
 
     by : (o : Operator) → depth_of (act.combined_set o t place target value) ≡ suc (suc (depth_of value))
-    by operator.Or = omega (arith, e, set_is place h value value, d.depth_or target (act.set_to place target value value) (act.nodes target value) (act.start t))
-    by operator.And = omega (arith, e, set_is place h value value, d.depth_and target (act.set_to place target value value) (act.nodes target value) (act.start t))
+    by operator.Or = omega (arith, named place, set_is place h value value, d.depth_or (act.name_target (Some place) target) (act.set_to place target value value) (act.nodes target value) (act.start t))
+    by operator.And = omega (arith, named place, set_is place h value value, d.depth_and (act.name_target (Some place) target) (act.set_to place target value value) (act.nodes target value) (act.start t))
     by operator.Add = call operator.Add
     by operator.Sub = call operator.Sub
     by operator.Mul = call operator.Mul

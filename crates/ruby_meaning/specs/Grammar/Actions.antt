@@ -359,8 +359,8 @@ abbrev pub set_to : Place → Node → Node → Node → Node
 set_to place target value whole = make (set_kind place value) (nodes target whole) target.mark
 
 abbrev pub combined_set : Operator → Seen → Place → Node → Node → Node
-combined_set operator.Or t place target value = make (kind.Or target (set_to place target value value)) (nodes target value) (start t)
-combined_set operator.And t place target value = make (kind.And target (set_to place target value value)) (nodes target value) (start t)
+combined_set operator.Or t place target value = make (kind.Or (name_target (Some place) target) (set_to place target value value)) (nodes target value) (start t)
+combined_set operator.And t place target value = make (kind.And (name_target (Some place) target) (set_to place target value value)) (nodes target value) (start t)
 combined_set op t place target value = set_to place target (combined op t target value) value
 
 abbrev pub combined_place : Option Place → Seen → Node → Node → Node
