@@ -1,9 +1,11 @@
 -- The states before calls of the host: of one task after another, and what each form of task adds to them.
-use Rattle.std.proofs.Common.{◌≡◌, ℕ, zero, suc, ◌∷◌, ◌++◌, length, refl, sym, ap, ◌∙◌}
+use Rattle.std.proofs.Common.{◌≡◌, ℕ, zero, suc, ◌≤◌, List, [], ◌∷◌, ◌++◌, length, refl, sym, ap, ◌∙◌, arith}
+use Rattle.opal_base.specs.declared.place.Pos.{Pos}
+use Rattle.es5_tree.specs.Ends.{OutKind}
 use Rattle.es5_tree.specs.Values.{Text}
 use Rattle.es5_tree.specs.Objects.Cells.{Cell}
 use Rattle.es5_evaluation.specs.State.{Code, Activation, State}
-use Rattle.es5_evaluation.specs.Task.{Completion, Request, Task, Done, Leaves, Ask, Look, Set, Make, Keep, Enter, Store, Print, Read, ◌>>=◌, walk, with_object, with_new, with_code, with_record, with_stored, printed, has_read}
+use Rattle.es5_evaluation.specs.Task.{Completion, Request, Task, Done, Leaves, Ask, Look, Set, Make, Keep, Enter, Store, Print, Read, ◌>>=◌, Outcome, Ended, Left, Going, walk, with_object, with_new, with_code, with_record, with_stored, printed, has_read}
 use Rattle.es5_evaluation.specs.Evaluate.{perform}
 use Rattle.es5_evaluation.specs.Run.{ask, run, seen, seen_with}
 use Rattle.es5_evaluation.proofs.Tasks.{then_assoc}
@@ -60,7 +62,57 @@ pub seen_parts : SeenInParts
 unfolding run moments
 seen_parts g t s = by_parts g (with_parts g) t s
 
+-- ---- more units
+
+-- with more units the same states are seen where the run has ended, and else these and later ones
+abbrev pub SeenOn : Outcome → List State → List State → Type 0
+SeenOn (Ended c s l) a b = b ≡ a
+SeenOn (Left kind p s) a b = b ≡ a
+SeenOn (Going s) a b = (more : List State) × (b ≡ a ++ more)
+
+seen_behind : (x : State) (o : Outcome) (a b : List State) → SeenOn o a b → SeenOn o (x ∷ a) (x ∷ b)
+seen_behind x (Ended c s l) a b h = ap (λ l. x ∷ l) h
+seen_behind x (Left kind p s) a b h = ap (λ l. x ∷ l) h
+seen_behind x (Going s) a b h = (h.0, ap (λ l. x ∷ l) h.1)
+
+by_more : (g h : ℕ) → ((q : Request) (f : Completion → Task) (s : State) → SeenOn (ask g q f s) (moments_with g q f s) (moments_with h q f s)) → (t : Task) (s : State) → SeenOn (walk (ask g) g t s) (moments_by (moments_with g) t s) (moments_by (moments_with h) t s)
+unfolding walk moments_by
+by_more g h m (Done c) s = refl
+by_more g h m (Leaves o p) s = refl
+by_more g h m (Ask q f) s = m q f s
+by_more g h m (Look f) s = by_more g h m (f s) s
+by_more g h m (Set o c t) s = by_more g h m t _
+by_more g h m (Make c f) s = by_more g h m (f _) _
+by_more g h m (Keep c f) s = by_more g h m (f _) _
+by_more g h m (Enter a f) s = by_more g h m (f _) _
+by_more g h m (Store r a t) s = by_more g h m t _
+by_more g h m (Print x t) s = seen_behind s _ _ _ (by_more g h m t _)
+by_more g h m (Read n t) s = seen_behind s _ _ _ (by_more g h m t _)
+
+with_more : (g h : ℕ) → g ≤ h → (q : Request) (f : Completion → Task) (s : State) → SeenOn (ask g q f s) (moments_with g q f s) (moments_with h q f s)
+unfolding ask moments_with
+with_more zero h l q f s = (moments_with h q f s, refl)
+with_more (suc g) zero l q f s = absurd (omega (arith, l))
+with_more (suc g) (suc h) l q f s = by_more g h (with_more g h (omega (arith, l))) (perform q >>= f) s
+
+pub moments_more : (g h : ℕ) → g ≤ h → (t : Task) (s : State) → SeenOn (run g t s) (moments g t s) (moments h t s)
+unfolding run moments
+moments_more g h l t s = by_more g h (with_more g h l) t s
+
 -- ---- the forms of tasks
+
+pub moments_done : (g : ℕ) (c : Completion) (s : State) → moments g (Done c) s ≡ []
+unfolding moments moments_by
+moments_done g c s = refl
+
+pub moments_leaves : (g : ℕ) (o : OutKind) (p : Pos) (s : State) → moments g (Leaves o p) s ≡ []
+unfolding moments moments_by
+moments_leaves g o p s = refl
+
+-- no node begins without a unit
+pub moments_starves : (q : Request) (k : Completion → Task) (s : State) → moments 0 (Ask q k) s ≡ []
+unfolding moments moments_by moments_with
+moments_starves q k s = refl
 
 pub moments_asks : (g : ℕ) (q : Request) (k : Completion → Task) (s : State) → moments (suc g) (Ask q k) s ≡ moments g (perform q >>= k) s
 unfolding moments moments_by moments_with

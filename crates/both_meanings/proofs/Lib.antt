@@ -1,0 +1,4 @@
+pub mod Meeting
+pub mod Bind
+pub mod Agreeing
+pub mod Whole

@@ -1,0 +1,4 @@
+pub mod Agree
+pub mod Follows
+pub mod Carries
+pub mod Law
