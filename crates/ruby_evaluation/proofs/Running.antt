@@ -1,7 +1,7 @@
 -- Programs to be computed: what a run tells, and a few methods of the core library.
 use Rattle.std.specs.Prelude.{ℕ, List, [], ◌∷◌, ◌++◌, codes, Option, Some, None}
 use Rattle.opal_base.specs.Shown.{HostCall, Wrote, Asked}
-use Rattle.ruby_meaning.specs.Run.{RubyEnd, NumberOutside}
+use Rattle.ruby_evaluation.specs.Ends.{RubyEnd, NumberOutside}
 use Rattle.ruby_meaning.specs.declared.tree.Node.{Node}
 use Rattle.ruby_meaning.specs.declared.tree.Kind.TheVariants as kinds
 use Rattle.ruby_meaning.specs.declared.tree.Params.{roll-Params}

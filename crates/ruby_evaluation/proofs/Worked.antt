@@ -2,7 +2,7 @@
 use Rattle.std.specs.Prelude.{◌≡◌, [], ◌∷◌, codes, refl, Some, None, false, pos, negsuc}
 use denote.Hole.Carrier
 use Rattle.ruby_meaning.specs.declared.tree.Base.TheBlock
-use Rattle.ruby_meaning.specs.Run.{Finished, Uncaught, NumberOutside}
+use Rattle.ruby_evaluation.specs.Ends.{Finished, Uncaught, NumberOutside}
 use Rattle.ruby_meaning.specs.declared.tree.Kind.{out-Kind}
 use Rattle.ruby_meaning.specs.declared.tree.Kind.TheVariants as kinds
 use Rattle.ruby_meaning.specs.declared.tree.ModuleForm.TheVariants as forms

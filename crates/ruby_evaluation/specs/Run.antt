@@ -4,7 +4,7 @@ use Rattle.opal_base.specs.Shown.{Shown, Ended, Going, output_of}
 use Rattle.ruby_meaning.specs.declared.tree.Node.{Node}
 use Rattle.ruby_meaning.specs.declared.value.Value.{Value}
 use Rattle.ruby_meaning.specs.declared.value.Value.TheVariants as value
-use Rattle.ruby_meaning.specs.Run.{RubyEnd, Finished, Uncaught, NumberOutside}
+use Rattle.ruby_evaluation.specs.Ends.{RubyEnd, Finished, Uncaught, NumberOutside}
 use Rattle.ruby_evaluation.specs.Tables.{Name, Text, at}
 use Rattle.ruby_evaluation.specs.State.{Plain, Module, Thing, Ruby, thing_at}
 use Rattle.ruby_evaluation.specs.Ancestors.{class_name}
