@@ -1,5 +1,5 @@
 -- From a task that follows an evaluation with any number of units to agreement in all four directions, and of the states that both sides show.
-use Rattle.std.proofs.Common.{◌≡◌, inl, inr, ⊎_elim, ℕ, zero, suc, ◌+◌, ◌-◌, ◌*◌, ◌<◌, ◌≤◌, List, [], ◌∷◌, ◌++◌, length, map, Some, refl, sym, ap, ◌∙◌, subst, arith, append_assoc, append-nil}
+use Rattle.std.proofs.Common.{◌≡◌, inl, inr, ⊎_elim, ℕ, zero, suc, ◌+◌, ◌-◌, ◌*◌, ◌<◌, ◌≤◌, List, [], ◌∷◌, ◌++◌, length, Some, refl, sym, ap, ◌∙◌, subst, arith, append_assoc, append-nil}
 use Rattle.std.specs.List.{slice_get}
 use Rattle.std.proofs.lemmas.Bool.{cases_lt}
 use Rattle.std.proofs.lemmas.List.{length-append}
@@ -18,7 +18,6 @@ use Rattle.es5_rules.specs.Moments.{moments, last_of}
 use Rattle.es5_rules.proofs.Moments.{SeenOn, moments_more, moments_done, seen_parts}
 use Rattle.ruby_evaluation.specs.Ends.{RubyEnd}
 use Rattle.ruby_evaluation.specs.Ends as ruby_end
-use Rattle.ruby_evaluation.specs.State.{Ruby}
 use Rattle.ruby_evaluation.specs.Task.{Result, Moment, State, Ends, Left, Starved}
 use Rattle.ruby_evaluation.specs.Task as ruby
 use Rattle.ruby_evaluation.specs.Run.{befores, shown, end_of}
@@ -26,7 +25,7 @@ use Rattle.ruby_evaluation.specs.Run as evaluation
 use Rattle.ruby_evaluation.specs.Laws.{OneMore, Next}
 use Rattle.ruby_evaluation.specs.Laws as laws
 use Rattle.both_meanings.specs.Agree.{Relation, SameEnd, AgreeRuns, CarriedRuns}
-use Rattle.both_meanings.specs.Follows.{calls_of, Carried, Post, EndsAt, LeftAt, StarvedAt, Followed, Follows}
+use Rattle.both_meanings.specs.Follows.{calls_of, Carried, Post, EndsAt, LeftAt, Followed, Follows}
 use Rattle.both_meanings.specs.Law.{Alike}
 use Rattle.both_meanings.proofs.Meeting.{carried_both, carried_length, carried_at, at_front}
 use Rattle.both_meanings.proofs.Bind.{follows_outcome}

@@ -1,10 +1,10 @@
 -- How what follows an outcome composes.
-use Rattle.std.proofs.Common.{◌≡◌, ℕ, ◌+◌, ◌*◌, ◌≤◌, List, [], ◌++◌, map, refl, sym, ap, ◌∙◌, subst, arith, append-nil}
+use Rattle.std.proofs.Common.{◌≡◌, ℕ, ◌+◌, ◌*◌, ◌≤◌, List, [], ◌++◌, refl, sym, ap, ◌∙◌, subst, arith, append-nil}
 use Rattle.es5_tree.specs.Ends.{Number}
 use Rattle.opal_base.specs.declared.place.Pos.{Pos}
 use Rattle.es5_evaluation.specs.State as es
 use Rattle.es5_evaluation.specs.Task.{Completion, Request, Task, Done, Leaves, Ask, ◌>>=◌}
-use Rattle.es5_evaluation.specs.Run.{run, behind, run_on}
+use Rattle.es5_evaluation.specs.Run.{behind, run_on}
 use Rattle.es5_evaluation.proofs.TaskRuns.{run_then, run_leaves, run_starves}
 use Rattle.es5_rules.specs.Moments.{moments, moments_on}
 use Rattle.es5_rules.specs.Steps.{Steps}

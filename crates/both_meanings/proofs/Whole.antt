@@ -1,8 +1,8 @@
 -- The law of agreement.
-use Rattle.std.proofs.Common.{◌≡◌, ℕ, [], refl}
+use Rattle.std.proofs.Common.{◌≡◌, [], refl}
 use Rattle.ruby_meaning.specs.declared.tree.Node.{Node}
 use Rattle.ruby_evaluation.specs.Tables.{Text}
-use Rattle.ruby_evaluation.specs.Run.{Bundled, eval_to, program, first_state, outcome, ruby_run, ruby_at}
+use Rattle.ruby_evaluation.specs.Run.{Bundled, eval_to, program, outcome, ruby_run, ruby_at}
 use Rattle.ruby_evaluation.specs.Laws.{calls_of, OneUnitMore}
 use Rattle.es5_evaluation.specs.Evaluate.{all}
 use Rattle.es5_evaluation.specs.Run.{es_run, es_at, script_scope}

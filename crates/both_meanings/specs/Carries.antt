@@ -4,8 +4,7 @@ use Rattle.std.specs.Prelude.{◌≡◌, ℕ, ◌<◌, Bool, true, false, List, 
 use Rattle.std.specs.List.{filter_map, list_any, slice_get}
 use Rattle.ruby_meaning.specs.declared.value.Value.{Value}
 use Rattle.ruby_meaning.specs.declared.value.Value.TheVariants as value
-use Rattle.es5_tree.specs.Values.{Val, Null, Truth, Num, Str, Obj, find_own}
-use Rattle.es5_tree.specs.Values as es
+use Rattle.es5_tree.specs.Values.{Val, Truth, Num, Str, Obj, find_own}
 use Rattle.es5_tree.specs.Objects.Cells.{Cell, Kind, own}
 use Rattle.es5_tree.specs.Objects.Cells as cell
 use Rattle.es5_tree.specs.Objects.Links.{cell_at, chain, get}
@@ -13,7 +12,7 @@ use Rattle.es5_tree.specs.Objects.Names.{decimal}
 use Rattle.es5_evaluation.specs.State.{State}
 use Rattle.es5_evaluation.specs.Values.{holder_of}
 use Rattle.ruby_evaluation.specs.Tables.{Name, at}
-use Rattle.ruby_evaluation.specs.State.{Entry, Undefined, Form, Array, Block, Sends, Thing, Ruby, thing_at}
+use Rattle.ruby_evaluation.specs.State.{Entry, Undefined, Form, Array, Block, Sends, Ruby, thing_at}
 use Rattle.ruby_evaluation.specs.Ancestors.{class_of, ancestors, entry_at}
 
 -- ---- names of properties
