@@ -3,8 +3,11 @@ use Rattle.std.proofs.Common.{◌≡◌, ℕ, List, Some, refl, sym, ap, ◌∙�
 use Rattle.opal_base.specs.Outside.{FileMap}
 use Rattle.opal_base.specs.Shown.{Shown, Ended, Going, Shows}
 use Rattle.ruby_meaning.specs.declared.bundle.Bundle.{Bundle}
-use Rattle.ruby_meaning.specs.Run as ruby
-use Rattle.ruby_meaning.specs.Run.{RubyEnd, ruby_run}
+use Rattle.ruby_meaning.specs.declared.tree.Node.{Node}
+use Rattle.ruby_evaluation.specs.Core.{IsCore, bundled}
+use Rattle.ruby_evaluation.specs.Ends.{RubyEnd}
+use Rattle.ruby_evaluation.specs.Ends as ruby
+use Rattle.ruby_evaluation.specs.Run.{ruby_run}
 use Rattle.es5_tree.specs.declared.tree.Script.{Script}
 use Rattle.es5_tree.specs.Ends.{EsEnd}
 use Rattle.es5_tree.specs.Ends as es
@@ -18,12 +21,12 @@ use Rattle.es5_host.specs.declared.answer.OutKind.{OutKind as Kind}
 use Rattle.opal_base.specs.declared.place.Pos.{Pos}
 use Rattle.opal_cli.specs.declared.words.Budget.{Budget}
 use Rattle.opal_cli.specs.declared.status.Status.{Status}
-use Rattle.opal_cli.specs.Agree.{Agree, SameEnd}
+use Rattle.both_meanings.specs.Agree.{AgreeRuns, SameEnd}
 use Rattle.opal_cli.specs.Answers.{AnswersAs, IsRun}
 use Rattle.opal_cli.specs.Words.{Exec}
 use Rattle.opal_cli.specs.Ends.{End, Wrote, UncaughtBy, Unread, RefusedAt, MissingFile, ReadFailed, WriteFailed, OutsideAt, StepsOver, CellsOver, NoScript, BadInputAt, OutOfMemory, TextTooLong, status_of}
 use Rattle.opal_cli.specs.Translation.{script_of}
-use Rattle.opal_cli.specs.Execution.{IsProgram, HasProgram, ExecAnswers, IsInputOf, RunsTo, RunAnswers, RubyShows, Executes}
+use Rattle.opal_cli.specs.Execution.{IsProgram, HasProgram, ExecAnswers, IsInputOf, RunsTo, RunAnswers, EvaluationShows, RubyShows, Executes}
 
 -- the end of the script that was read back is that of the bundle's script
 same_end : (last : RubyEnd) (end other : EsEnd) → law.SameEnd end other → SameEnd last other → SameEnd last end
@@ -55,67 +58,71 @@ same_end ruby.NumberOutside (es.Outside kind place) es.Finished s t = absurd s
 same_end ruby.NumberOutside (es.Outside kind place) (es.Uncaught c d) s t = absurd s
 same_end ruby.NumberOutside (es.Outside kind place) (es.Outside other there) s t = s ∙ t
 
--- what Ruby's evaluation ends with
-abbrev RubyEnds : Bundle → Text → List ℕ → EsEnd → Type 0
-RubyEnds bundle input output end = (n : ℕ) × (last : RubyEnd) × (ruby_run bundle input n ≡ Ended output last) × SameEnd last end
+-- what an evaluation ends with
+abbrev RubyEnds : (ℕ → Shown RubyEnd) → List ℕ → EsEnd → Type 0
+RubyEnds f output end = (n : ℕ) × (last : RubyEnd) × (f n ≡ Ended output last) × SameEnd last end
 
-ended_like : (bundle : Bundle) (script : Script) (input : Text) (n : ℕ) (output : List ℕ) (end : EsEnd) (other : Shown EsEnd) → Agree bundle script → es_run script input n ≡ other → SameShown (Ended output end) other → RubyEnds bundle input output end
-ended_like bundle script input n output end (Ended shown last) agree e s =
-    let r = agree.ends_only input n shown last e in
+ended_like : (f : ℕ → Shown RubyEnd) (script : Script) (input : Text) (n : ℕ) (output : List ℕ) (end : EsEnd) (other : Shown EsEnd) → AgreeRuns f (es_run script input) → es_run script input n ≡ other → SameShown (Ended output end) other → RubyEnds f output end
+ended_like f script input n output end (Ended shown last) agree e s =
+    let r = agree.ends_only n shown last e in
     (r.0, r.1, r.2 ∙ ap (λ o. Ended o r.1) (sym s.0), same_end r.1 end last s.1 r.3)
-ended_like bundle script input n output end (Going shown) agree e s = absurd s
+ended_like f script input n output end (Going shown) agree e s = absurd s
 
-goes_like : (bundle : Bundle) (script : Script) (input : Text) (n : ℕ) (output : List ℕ) (other : Shown EsEnd) → Agree bundle script → es_run script input n ≡ other → SameShown (Going output) other → (k : ℕ) × Shows (ruby_run bundle input k) output
-goes_like bundle script input n output (Ended shown last) agree e s = absurd s
-goes_like bundle script input n output (Going shown) agree e s =
-    let r = agree.goes_only input n shown e in
-    (r.0, subst (Shows (ruby_run bundle input r.0)) (sym s) r.1)
+goes_like : (f : ℕ → Shown RubyEnd) (script : Script) (input : Text) (n : ℕ) (output : List ℕ) (other : Shown EsEnd) → AgreeRuns f (es_run script input) → es_run script input n ≡ other → SameShown (Going output) other → (k : ℕ) × Shows (f k) output
+goes_like f script input n output (Ended shown last) agree e s = absurd s
+goes_like f script input n output (Going shown) agree e s =
+    let r = agree.goes_only n shown e in
+    (r.0, subst (Shows (f r.0)) (sym s) r.1)
 
 same_shown : OneSpelled → ReadSpells → SitesDontMatter → (bundle : Bundle) (script : Script) → IsProgram bundle script → (input : Text) (n : ℕ) → SameShown (es_run script input n) (es_run (script_of bundle) input n)
 same_shown one spells sites bundle script p input n = sites script (script_of bundle) (one _ script (script_of bundle) (spells _ script p.reads) p.spells) input n
 
-ruby_ends : OneSpelled → ReadSpells → SitesDontMatter → (bundle : Bundle) (script : Script) → IsProgram bundle script → (input : Text) (n : ℕ) (output : List ℕ) (end : EsEnd) → es_run script input n ≡ Ended output end → RubyEnds bundle input output end
-ruby_ends one spells sites bundle script p input n output end e =
-    ended_like bundle (script_of bundle) input n output end _ p.agrees refl (subst (λ s. SameShown s (es_run (script_of bundle) input n)) e (same_shown one spells sites bundle script p input n))
+ruby_ends : OneSpelled → ReadSpells → SitesDontMatter → (bundle : Bundle) (script : Script) → IsProgram bundle script → (f : ℕ → Shown RubyEnd) (input : Text) → AgreeRuns f (es_run (script_of bundle) input) → (n : ℕ) (output : List ℕ) (end : EsEnd) → es_run script input n ≡ Ended output end → RubyEnds f output end
+ruby_ends one spells sites bundle script p f input agree n output end e =
+    ended_like f (script_of bundle) input n output end _ agree refl (subst (λ s. SameShown s (es_run (script_of bundle) input n)) e (same_shown one spells sites bundle script p input n))
 
-finished : (bundle : Bundle) (input : Text) (output : List ℕ) (n : ℕ) (last : RubyEnd) → ruby_run bundle input n ≡ Ended output last → SameEnd last es.Finished → RubyShows bundle input Wrote output
-finished bundle input output n ruby.Finished e s = (n, e)
-finished bundle input output n (ruby.Uncaught name message) e s = absurd s
-finished bundle input output n ruby.NumberOutside e s = absurd s
+finished : (f : ℕ → Shown RubyEnd) (output : List ℕ) (n : ℕ) (last : RubyEnd) → f n ≡ Ended output last → SameEnd last es.Finished → EvaluationShows f Wrote output
+finished f output n ruby.Finished e s = (n, e)
+finished f output n (ruby.Uncaught name message) e s = absurd s
+finished f output n ruby.NumberOutside e s = absurd s
 
-uncaught : (bundle : Bundle) (input : Text) (output name message : List ℕ) (n : ℕ) (last : RubyEnd) → ruby_run bundle input n ≡ Ended output last → SameEnd last (es.Uncaught name message) → RubyShows bundle input (UncaughtBy name message) output
-uncaught bundle input output name message n ruby.Finished e s = absurd s
-uncaught bundle input output name message n (ruby.Uncaught other text) e s = (n, e ∙ ap (Ended output) (ap (λ x. ruby.Uncaught x text) s.0 ∙ ap (ruby.Uncaught name) s.1))
-uncaught bundle input output name message n ruby.NumberOutside e s = absurd s
+uncaught : (f : ℕ → Shown RubyEnd) (output name message : List ℕ) (n : ℕ) (last : RubyEnd) → f n ≡ Ended output last → SameEnd last (es.Uncaught name message) → EvaluationShows f (UncaughtBy name message) output
+uncaught f output name message n ruby.Finished e s = absurd s
+uncaught f output name message n (ruby.Uncaught other text) e s = (n, e ∙ ap (Ended output) (ap (λ x. ruby.Uncaught x text) s.0 ∙ ap (ruby.Uncaught name) s.1))
+uncaught f output name message n ruby.NumberOutside e s = absurd s
 
-outside : (bundle : Bundle) (input : Text) (output : List ℕ) (kind : Kind) (pos : Pos) (n : ℕ) (last : RubyEnd) → ruby_run bundle input n ≡ Ended output last → SameEnd last (es.Outside (out_of kind) pos) → RubyShows bundle input (OutsideAt kind pos) output
-outside bundle input output kind pos n ruby.Finished e s = absurd s
-outside bundle input output kind pos n (ruby.Uncaught name message) e s = absurd s
-outside bundle input output kind pos n ruby.NumberOutside e s = (n, e)
+outside : (f : ℕ → Shown RubyEnd) (output : List ℕ) (kind : Kind) (pos : Pos) (n : ℕ) (last : RubyEnd) → f n ≡ Ended output last → SameEnd last (es.Outside (out_of kind) pos) → EvaluationShows f (OutsideAt kind pos) output
+outside f output kind pos n ruby.Finished e s = absurd s
+outside f output kind pos n (ruby.Uncaught name message) e s = absurd s
+outside f output kind pos n ruby.NumberOutside e s = (n, e)
 
--- the evaluation shows what the run of the script read back shows
+-- an evaluation that agrees with the bundle's script shows what the run of the script read back shows
+evaluation_shows : OneSpelled → ReadSpells → SitesDontMatter → (bundle : Bundle) (script : Script) → IsProgram bundle script → (f : ℕ → Shown RubyEnd) (input : Text) → AgreeRuns f (es_run (script_of bundle) input) → (budget : Budget) (end : End) (output : List ℕ) → RunsTo script input budget end output → EvaluationShows f end output
+evaluation_shows one spells sites bundle script p f input agree budget Wrote output r =
+    let t = ruby_ends one spells sites bundle script p f input agree budget.steps output es.Finished r.shows in
+    finished f output t.0 t.1 t.2 t.3
+evaluation_shows one spells sites bundle script p f input agree budget (UncaughtBy name message) output r =
+    let t = ruby_ends one spells sites bundle script p f input agree budget.steps output (es.Uncaught name message) r.shows in
+    uncaught f output name message t.0 t.1 t.2 t.3
+evaluation_shows one spells sites bundle script p f input agree budget (OutsideAt kind pos) output r =
+    let t = ruby_ends one spells sites bundle script p f input agree budget.steps output (es.Outside (out_of kind) pos) r.shows in
+    outside f output kind pos t.0 t.1 t.2 t.3
+evaluation_shows one spells sites bundle script p f input agree budget (StepsOver steps) output r =
+    goes_like f (script_of bundle) input budget.steps output _ agree refl (subst (λ s. SameShown s (es_run (script_of bundle) input budget.steps)) r.1.shows (same_shown one spells sites bundle script p input budget.steps))
+evaluation_shows one spells sites bundle script p f input agree budget (CellsOver cells) output r = tt
+evaluation_shows one spells sites bundle script p f input agree budget Unread output r = absurd r
+evaluation_shows one spells sites bundle script p f input agree budget (RefusedAt file pos construct) output r = absurd r
+evaluation_shows one spells sites bundle script p f input agree budget (MissingFile name) output r = absurd r
+evaluation_shows one spells sites bundle script p f input agree budget ReadFailed output r = absurd r
+evaluation_shows one spells sites bundle script p f input agree budget WriteFailed output r = absurd r
+evaluation_shows one spells sites bundle script p f input agree budget (NoScript file pos) output r = absurd r
+evaluation_shows one spells sites bundle script p f input agree budget (BadInputAt offset) output r = absurd r
+evaluation_shows one spells sites bundle script p f input agree budget OutOfMemory output r = absurd r
+evaluation_shows one spells sites bundle script p f input agree budget TextTooLong output r = absurd r
+
 pub ruby_shows : OneSpelled → ReadSpells → SitesDontMatter → (bundle : Bundle) (script : Script) → IsProgram bundle script → (input : Text) (budget : Budget) (end : End) (output : List ℕ) → RunsTo script input budget end output → RubyShows bundle input end output
-ruby_shows one spells sites bundle script p input budget Wrote output r =
-    let t = ruby_ends one spells sites bundle script p input budget.steps output es.Finished r.shows in
-    finished bundle input output t.0 t.1 t.2 t.3
-ruby_shows one spells sites bundle script p input budget (UncaughtBy name message) output r =
-    let t = ruby_ends one spells sites bundle script p input budget.steps output (es.Uncaught name message) r.shows in
-    uncaught bundle input output name message t.0 t.1 t.2 t.3
-ruby_shows one spells sites bundle script p input budget (OutsideAt kind pos) output r =
-    let t = ruby_ends one spells sites bundle script p input budget.steps output (es.Outside (out_of kind) pos) r.shows in
-    outside bundle input output kind pos t.0 t.1 t.2 t.3
-ruby_shows one spells sites bundle script p input budget (StepsOver steps) output r =
-    goes_like bundle (script_of bundle) input budget.steps output _ p.agrees refl (subst (λ s. SameShown s (es_run (script_of bundle) input budget.steps)) r.1.shows (same_shown one spells sites bundle script p input budget.steps))
-ruby_shows one spells sites bundle script p input budget (CellsOver cells) output r = tt
-ruby_shows one spells sites bundle script p input budget Unread output r = absurd r
-ruby_shows one spells sites bundle script p input budget (RefusedAt file pos construct) output r = absurd r
-ruby_shows one spells sites bundle script p input budget (MissingFile name) output r = absurd r
-ruby_shows one spells sites bundle script p input budget ReadFailed output r = absurd r
-ruby_shows one spells sites bundle script p input budget WriteFailed output r = absurd r
-ruby_shows one spells sites bundle script p input budget (NoScript file pos) output r = absurd r
-ruby_shows one spells sites bundle script p input budget (BadInputAt offset) output r = absurd r
-ruby_shows one spells sites bundle script p input budget OutOfMemory output r = absurd r
-ruby_shows one spells sites bundle script p input budget TextTooLong output r = absurd r
+ruby_shows one spells sites bundle script p input budget end output r core is_core =
+    evaluation_shows one spells sites bundle script p (ruby_run core (bundled bundle) input) input (p.agrees core is_core input) budget end output r
 
 -- the run on the input of a status of a run that began
 on_input : (input : Option (List ℕ)) (script : Script) (budget : Budget) (end : End) (output : List ℕ) → IsRun (status_of end) → RunAnswers input script budget end output → (text : Text) × IsInputOf input text × RunsTo script text budget end output

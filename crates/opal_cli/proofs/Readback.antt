@@ -2,8 +2,7 @@
 use Rattle.std.proofs.Common.{◌≡◌, ℕ, ◌<◌, ◌^◌, List, length, map, ◌∙◌, subst, arith}
 use Rattle.opal_base.specs.declared.place.Pos.{Pos}
 use Rattle.ruby_meaning.specs.declared.bundle.Bundle.{Bundle}
-use Rattle.ruby_meaning.specs.Eval.{puts_text}
-use Rattle.ruby_meaning.specs.Puts.{putting}
+use Rattle.ruby_meaning.specs.Puts.{putting, puts_text}
 use Rattle.es5_tree.specs.declared.tree.Script.{Script}
 use Rattle.es5_tree.specs.Grammar.Laws.{NotScriptOrRead}
 use Rattle.es5_tree.specs.Grammar.Spelling.{EsSpells, IsNotScript, Reads}

@@ -6,17 +6,19 @@ use Rattle.opal_base.specs.declared.place.Pos.{Pos}
 use Rattle.opal_base.specs.Text.{utf8_of}
 use Rattle.opal_base.specs.Shown.{Shown, Ended, Going, Shows, ShowsInTurn}
 use Rattle.ruby_meaning.specs.declared.bundle.Bundle.{Bundle}
-use Rattle.ruby_meaning.specs.Eval.{puts_text}
-use Rattle.ruby_meaning.specs.Puts.{putting}
-use Rattle.ruby_meaning.specs.Run.{RubyEnd, ruby_run}
-use Rattle.ruby_meaning.specs.Run as ruby
-use Rattle.ruby_meaning.specs.Laws.{OnlyPuts, PutsInTurn}
+use Rattle.ruby_meaning.specs.Puts.{putting, puts_text}
+use Rattle.ruby_meaning.specs.Laws.{OnlyPuts}
+use Rattle.ruby_evaluation.specs.Core.{bundled}
+use Rattle.ruby_evaluation.specs.Ends.{RubyEnd}
+use Rattle.ruby_evaluation.specs.Ends as ruby
+use Rattle.ruby_evaluation.specs.Laws.{PutsInTurn}
+use Rattle.ruby_evaluation.specs.Run.{ruby_run}
 use Rattle.es5_tree.specs.declared.tree.Script.{Script}
-use Rattle.es5_tree.specs.Ends.{OutKind, Number}
+use Rattle.es5_tree.specs.Ends.{EsEnd, OutKind, Number}
 use Rattle.es5_tree.specs.Ends as es
 use Rattle.es5_evaluation.specs.Run.{es_run}
 use Rattle.es5_laws.specs.Laws.{WritesInTurn}
-use Rattle.opal_cli.specs.Agree.{SameEnd, Agree}
+use Rattle.both_meanings.specs.Agree.{SameEnd, AgreeRuns}
 use Rattle.opal_cli.specs.Translation.{script_of}
 use Rattle.opal_cli.specs.Laws.{Agreement}
 
@@ -45,26 +47,26 @@ ends_too other texts last output t e = (t.enough, t.ends t.enough (omega arith) 
 only_number : (output other : List ℕ) (kind : OutKind) (place : Pos) → Ended output es.Finished ≡ Ended other (es.Outside kind place) → kind ≡ Number
 only_number output other kind place e = cc
 
-in_turn : (bundle : Bundle) (script : Script) (texts : List (List ℕ)) → ((input : List ℕ) → ShowsInTurn (ruby_run bundle input) texts ruby.Finished) → ((input : List ℕ) → ShowsInTurn (es_run script input) texts es.Finished) → Agree bundle script
-in_turn bundle script texts f g = record {
-  ends = λ input n output end e.
-      let a = ended_so (ruby_run bundle input) texts ruby.Finished end n output (f input) e in
-      let b = ends_too (es_run script input) texts es.Finished output (g input) a.0 in
+in_turn : (f : ℕ → Shown RubyEnd) (g : ℕ → Shown EsEnd) (texts : List (List ℕ)) → ShowsInTurn f texts ruby.Finished → ShowsInTurn g texts es.Finished → AgreeRuns f g
+in_turn f g texts s t = record {
+  ends = λ n output end e.
+      let a = ended_so f texts ruby.Finished end n output s e in
+      let b = ends_too g texts es.Finished output t a.0 in
       (b.0, es.Finished, b.1, subst (λ x. SameEnd x es.Finished) (sym a.1) tt);
-  ends_only = λ input m output other e.
-      let a = ended_so (es_run script input) texts es.Finished other m output (g input) e in
-      let b = ends_too (ruby_run bundle input) texts ruby.Finished output (f input) a.0 in
+  ends_only = λ m output other e.
+      let a = ended_so g texts es.Finished other m output t e in
+      let b = ends_too f texts ruby.Finished output s a.0 in
       (b.0, ruby.Finished, b.1, subst (SameEnd ruby.Finished) (sym a.1) tt);
-  goes = λ input n output e. shown_too (ruby_run bundle input) (es_run script input) texts ruby.Finished es.Finished n output (f input) (g input) e;
-  goes_only = λ input m output e. shown_too (es_run script input) (ruby_run bundle input) texts es.Finished ruby.Finished m output (g input) (f input) e;
-  outside = λ input m output kind place e.
-      let a = ended_so (es_run script input) texts es.Finished (es.Outside kind place) m output (g input) e in
+  goes = λ n output e. shown_too f g texts ruby.Finished es.Finished n output s t e;
+  goes_only = λ m output e. shown_too g f texts es.Finished ruby.Finished m output t s e;
+  outside = λ m output kind place e.
+      let a = ended_so g texts es.Finished (es.Outside kind place) m output t e in
       let b = a.1 in cc;
 }
 
 -- ---- the law
 
 pub agreement_by : OnlyPuts → PutsInTurn → WritesInTurn → Agreement
-agreement_by only turn es_turn bundle sound =
+agreement_by only turn es_turn bundle sound core is_core input =
     let texts = map puts_text (putting bundle.main.program.body).texts in
-    in_turn bundle (script_of bundle) texts (λ input. turn bundle input (only bundle sound)) (es_turn texts)
+    in_turn (ruby_run core (bundled bundle) input) (es_run (script_of bundle) input) texts (turn core bundle input is_core (only bundle sound)) (es_turn texts input)

@@ -1,10 +1,8 @@
 ghost use Rattle.std.specs.Prelude.{◌≡◌, ◌<◌, ◌^◌, List, [], ◌∷◌, ◌++◌, map, IfOk, option_to_list};
 ghost use Rattle.std.specs.Option.{option_copied};
 ghost use Rattle.std.specs.List.{AllByRecursion};
-ghost use Rattle.ruby_meaning.specs.Eval.{puts_text};
-ghost use Rattle.ruby_meaning.specs.Eval as spec_of;
 ghost use Rattle.ruby_meaning.specs.Load.{IsSound};
-ghost use Rattle.ruby_meaning.specs.Puts.{all_texts, putting};
+ghost use Rattle.ruby_meaning.specs.Puts.{all_texts, ends_line, puts_text, putting};
 ghost use Rattle.es5_tree.specs.Grammar.Spelling.{EsSpells};
 ghost use Rattle.es5_printer.specs.Text.{text_of};
 ghost use Rattle.opal_cli.specs.Agree.{Agree};
@@ -145,7 +143,7 @@ fn line_of(alloc: Global, text: &Units) -> Result<Units, NoMemory>
 }
 
 fn ends_line(text: &[u16]) -> bool
-    ensures { result ≡ spec_of.ends_line text.now }
+    ensures { result ≡ ends_line text.now }
 {
     match text {
         [] => false,
