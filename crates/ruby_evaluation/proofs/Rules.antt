@@ -13,7 +13,7 @@ use Rattle.ruby_meaning.specs.declared.tree.Operator.TheVariants as operator
 use Rattle.ruby_meaning.specs.declared.tree.Params.{roll-Params, out-Params}
 use Rattle.ruby_meaning.specs.declared.tree.Rest.TheVariants as rest
 use Rattle.ruby_evaluation.specs.Tables.{decimal}
-use Rattle.ruby_evaluation.specs.Trees.{node, node_at, nil, yes_lit, int, str, seq, get, set, const, prim, write, write_int, add, join, call, own_call, call_with, names, plain, def, class, module_, block_at, break_, return_, if_}
+use Rattle.ruby_evaluation.proofs.Trees.{node, node_at, nil, yes_lit, int, str, seq, get, set, const, prim, write, write_int, add, join, call, own_call, call_with, names, plain, def, class, module_, block_at, break_, return_, if_}
 use Rattle.ruby_evaluation.specs.Run.{outcome, eval_to}
 use Rattle.ruby_evaluation.proofs.Running.{Ended, Going, told, runs, me, mul, same, yields, super_, include, begin_, rescue, new_, core}
 

@@ -6,7 +6,7 @@ use Rattle.ruby_meaning.specs.declared.tree.Node.{Node}
 use Rattle.ruby_meaning.specs.declared.tree.Kind.TheVariants as kinds
 use Rattle.ruby_meaning.specs.declared.tree.Params.{roll-Params}
 use Rattle.ruby_meaning.specs.declared.tree.Rest.TheVariants as rest
-use Rattle.ruby_evaluation.specs.Trees.{node_at, with_rest, node, nil, int, seq, get, const, prim, call, def, class}
+use Rattle.ruby_evaluation.proofs.Trees.{node_at, with_rest, node, nil, int, seq, get, const, prim, call, def, class}
 use Rattle.ruby_evaluation.specs.Tables.{Text}
 use Rattle.ruby_evaluation.specs.Task.{Moment, Outcome, Ends, Left, Starved}
 use Rattle.ruby_evaluation.specs.Run.{outcome, end_of}

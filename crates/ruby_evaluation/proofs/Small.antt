@@ -10,7 +10,7 @@ use Rattle.ruby_meaning.specs.declared.tree.ModuleForm.{out-ModuleForm}
 use Rattle.ruby_meaning.specs.declared.tree.Base.{out-Base}
 use Rattle.ruby_meaning.specs.declared.tree.Params.{roll-Params, out-Params}
 use Rattle.ruby_evaluation.specs.Tables.{decimal}
-use Rattle.ruby_evaluation.specs.Trees.{node, node_at, nil, int, str, seq, get, set, const, prim, write, write_int, add, join, call, own_call, call_with, plain, with_rest, def, class, module_, block_at, break_, return_, if_}
+use Rattle.ruby_evaluation.proofs.Trees.{node, node_at, nil, int, str, seq, get, set, const, prim, write, write_int, add, join, call, own_call, call_with, plain, with_rest, def, class, module_, block_at, break_, return_, if_}
 use Rattle.ruby_evaluation.specs.Run.{outcome, eval_to}
 use Rattle.ruby_evaluation.proofs.Running.{Ended, Going, runs, mul, same, yields, super_, include, begin_, rescue, new_, core}
 

@@ -15,7 +15,7 @@ use Rattle.ruby_meaning.specs.declared.tree.Operator.TheVariants as operator
 use Rattle.ruby_meaning.specs.declared.tree.Params.{roll-Params, out-Params}
 use Rattle.ruby_meaning.specs.declared.tree.Rest.TheVariants as rest
 use Rattle.ruby_evaluation.specs.Tables.{decimal}
-use Rattle.ruby_evaluation.specs.Trees.{seq}
+use Rattle.ruby_evaluation.proofs.Trees.{seq}
 use Rattle.ruby_evaluation.specs.Run.{outcome, eval_to}
 use Rattle.ruby_evaluation.proofs.WholeCore.{nd, whole_core}
 use Rattle.ruby_evaluation.proofs.Running.{Ended, Going, told, runs}

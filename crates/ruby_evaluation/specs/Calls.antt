@@ -1,14 +1,16 @@
 -- Calls: methods, readers and writers, procs, `super`, `yield`, and what is called where nothing is found.
-use Rattle.std.specs.Prelude.{ℕ, true, false, if◌then◌else◌, nat_eq, List, [], ◌∷◌, ◌++◌, length, Option, Some, None, codes}
+use Rattle.std.specs.Prelude.{ℕ, Bool, true, false, if◌then◌else◌, nat_eq, List, [], ◌∷◌, ◌++◌, length, Option, Some, None, bytes_eq, codes}
+use Rattle.opal_base.specs.Shown.{Wrote}
 use Rattle.opal_base.specs.declared.place.Pos.{Pos}
 use Rattle.ruby_meaning.specs.declared.tree.Node.{Node}
 use Rattle.ruby_meaning.specs.declared.tree.Params.{Params, out-Params}
 use Rattle.ruby_meaning.specs.declared.value.Value.{Value}
 use Rattle.ruby_meaning.specs.declared.value.Value.TheVariants as value
+use Rattle.ruby_meaning.specs.Puts.{puts_text}
 use Rattle.ruby_evaluation.specs.Tables.{Name, at}
 use Rattle.ruby_evaluation.specs.State.{Method, Entry, Def, Reader, Writer, Undefined, Ending, EndsCall, EndsItself, Closure, Form, Block, Sends, Frame, Ruby, thing_at, frame_at, with_variable, with_new_frame, closed, call_closed}
 use Rattle.ruby_evaluation.specs.Ancestors.{find, find_behind}
-use Rattle.ruby_evaluation.specs.Task.{BreakLoop, Break, Next, Return, Raise, Again, Result, Val, Leaves, Place, Task, Done, Look, Change, ◌>>=◌, gives, run_node}
+use Rattle.ruby_evaluation.specs.Task.{BreakLoop, Break, Next, Return, Raise, Again, Result, Val, Leaves, Place, Task, Done, Look, Change, Host, ◌>>=◌, gives, run_node}
 use Rattle.ruby_evaluation.specs.Texts.{wrong_kind, frozen, jump_error, no_method}
 use Rattle.ruby_evaluation.specs.Locals.{Declared, declared, declared_in_defaults, parameter_places, all_nil, own_of_block, or_nil}
 use Rattle.ruby_evaluation.specs.Parameters.{first_of, others, takes, expected, wrong_number, is_wide, spread_one, bind}
@@ -96,8 +98,14 @@ invoke Undefined v args block = gives value.Nil
 abbrev pub missing_name : Name
 missing_name = codes "method_missing"
 
+-- While no text of the core library counts there is no method `puts`, and `puts` of one text writes it as one text. This
+-- case goes when the text that counts has the method.
+abbrev pub puts_or_none : Bool → Value → Name → List Value → Task
+puts_or_none true v name (value.Text t ∷ []) = Host (Wrote (puts_text t)) (gives value.Nil)
+puts_or_none _ v name args = no_method name v
+
 abbrev pub missed : Option Entry → Value → Name → List Value → Value → Task
-missed None v name args block = no_method name v
+missed None v name args block = puts_or_none (bytes_eq name (codes "puts")) v name args
 missed (Some e) v name args block = invoke e v (value.Text name ∷ args) block
 
 -- where nothing is found `method_missing` is called with the name

@@ -1,10 +1,15 @@
--- Laws of the evaluation with more units.
-use Rattle.std.specs.Prelude.{◌≡◌, ◌⊎◌, ℕ, suc, ◌+◌, ◌≤◌, List, ◌∷◌, ◌++◌}
+-- Laws of the evaluation: with more units, of tasks one after another, and of programs of calls of `puts`.
+use Rattle.std.specs.Prelude.{◌≡◌, ◌⊎◌, ℕ, suc, ◌+◌, ◌≤◌, true, List, ◌∷◌, ◌++◌, map}
+use Rattle.opal_base.specs.Shown.{Ended, Shows, ShowsInTurn}
+use Rattle.ruby_meaning.specs.declared.bundle.Bundle.{Bundle}
+use Rattle.ruby_meaning.specs.Puts.{putting, puts_text}
 use Rattle.ruby_meaning.specs.declared.tree.Node.{Node}
 use Rattle.ruby_evaluation.specs.Tables.{Text}
 use Rattle.ruby_evaluation.specs.Task.{Result, Request, Task, ◌>>=◌, Eval, walk, andthen, Moment, State, Outcome, Ends, Left, Starved}
 use Rattle.ruby_evaluation.specs.Requires.{Files}
-use Rattle.ruby_evaluation.specs.Run.{Bundled, eval_to, outcome}
+use Rattle.ruby_evaluation.specs.Run.{Bundled, eval_to, outcome, ruby_run}
+use Rattle.ruby_evaluation.specs.Ends.{RubyEnd, Finished}
+use Rattle.ruby_evaluation.specs.Core.{IsCore, bundled}
 
 -- no further call of the host, or one
 abbrev pub OneMore : List Moment → List Moment → Type 0
@@ -58,3 +63,22 @@ WalkThen = (f : Eval) (t : Task) (k : Result → Task) (s : State) (g : ℕ) →
 -- a depth that is not below the units never ends a run
 abbrev pub DepthEnough : Type 0
 DepthEnough = (files : Files) (d : ℕ) (q : Request) (s : State) (g : ℕ) → g ≤ d → eval_to files (suc d) q s g ≡ eval_to files d q s g
+
+-- ---- what a run shows
+
+-- once a run has ended, more units change nothing of what it shows
+abbrev pub EndStays : Type 0
+EndStays = (core : Node) (b : Bundled) (input : Text) (n k : ℕ) (output : List ℕ) (end : RubyEnd) → ruby_run core b input n ≡ Ended output end → ruby_run core b input (n + k) ≡ Ended output end
+
+-- a run has one end
+abbrev pub OneEnd : Type 0
+OneEnd = (core : Node) (b : Bundled) (input : Text) (n m : ℕ) (output other : List ℕ) (end last : RubyEnd) → ruby_run core b input n ≡ Ended output end → ruby_run core b input m ≡ Ended other last → (output ≡ other) × (end ≡ last)
+
+-- with more units the output only grows
+abbrev pub OutputGrows : Type 0
+OutputGrows = (core : Node) (b : Bundled) (input : Text) (n k : ℕ) (output : List ℕ) → Shows (ruby_run core b input n) output → (more : List ℕ) × Shows (ruby_run core b input (n + k)) (output ++ more)
+
+-- a program of calls of `puts` with one text writes the texts one after the other and finishes
+abbrev pub PutsInTurn : Type 0
+PutsInTurn = (core : Node) (bundle : Bundle) (input : Text) → IsCore core → (putting bundle.main.program.body).only_puts ≡ true
+    → ShowsInTurn (ruby_run core (bundled bundle) input) (map puts_text (putting bundle.main.program.body).texts) Finished
