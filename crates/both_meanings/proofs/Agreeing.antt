@@ -284,7 +284,7 @@ module _ (t : Task) (s : es.State) where
           f.m + m,
           omega arith,
           subst (λ v. Carried C (befores st.calls ++ st.ruby ∷ []) v) (sym (shown_at (f.m + m) (task.Ended f.c f.z m) f.vs e w))
-          (carried_both C (befores st.calls) (st.ruby ∷ []) f.vs (f.z ∷ []) (subst (λ c. Carried C (befores c) f.vs) (since_none f.met.later st.calls f.met.is) f.met.carried) (p.states, tt)),
+              (carried_both C (befores st.calls) (st.ruby ∷ []) f.vs (f.z ∷ []) (subst (λ c. Carried C (befores c) f.vs) (since_none f.met.later st.calls f.met.is) f.met.carried) (p.states, tt)),
         )
     meet m n j (Left st l) i =
         let f = followed n (Left st l) i in
@@ -293,14 +293,14 @@ module _ (t : Task) (s : es.State) where
           f.m + m,
           omega arith,
           subst (λ v. Carried C (befores st.calls) v) (sym (append-nil f.vs) ∙ sym (shown_at (f.m + m) (task.Left Number f.place f.z) f.vs e w))
-          (subst (λ c. Carried C (befores c) f.vs) (since_none f.met.later st.calls f.met.is) f.met.carried),
+              (subst (λ c. Carried C (befores c) f.vs) (since_none f.met.later st.calls f.met.is) f.met.carried),
         )
     meet m n j (Starved st) i =
         let f = followed n (Starved st) i in (
           f.m,
           omega (arith, j, f.steps),
           subst (λ v. Carried C (befores st.calls) v) (sym (append-nil f.vs) ∙ sym (shown_at f.m (task.Going f.z) f.vs f.stops f.sees))
-          (subst (λ c. Carried C (befores c) f.vs) (since_none f.met.later st.calls f.met.is) f.met.carried),
+              (subst (λ c. Carried C (befores c) f.vs) (since_none f.met.later st.calls f.met.is) f.met.carried),
         )
 
     met_at : (m n : ℕ) → (k : ℕ) × (m ≤ k) × Carried C (evaluation.moments (o ((1000 * m + a + 1) + n))) (V k)
