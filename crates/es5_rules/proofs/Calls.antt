@@ -1,5 +1,5 @@
 -- Calls: of a name, of a member with its `this`, of a value; and what a function of the script does, from the record that is entered to how its body ends.
-use Rattle.std.proofs.Common.{◌≡◌, ℕ, suc, ◌+◌, true, false, List, [], ◌∷◌, ◌++◌, length, map, Option, None, Some, codes, refl, sym, ap, ◌∙◌, arith, append-nil, append_assoc}
+use Rattle.std.proofs.Common.{◌≡◌, ℕ, ◌+◌, true, false, List, [], ◌∷◌, ◌++◌, length, Some, ap, ◌∙◌, arith}
 use Rattle.opal_base.specs.declared.place.Pos.{Pos}
 use Rattle.es5_tree.specs.declared.tree.EsExpr.{EsExpr}
 use Rattle.es5_tree.specs.declared.tree.EsKind.TheVariants as kind
@@ -7,15 +7,14 @@ use Rattle.es5_tree.specs.Values.{Text, Val, Undefined, Obj}
 use Rattle.es5_tree.specs.Objects.Cells as cells
 use Rattle.es5_tree.specs.Objects.Links.{cell_at}
 use Rattle.es5_evaluation.specs.State.{Code, Activation, State, code_at, record_at, binding, value_in}
-use Rattle.es5_evaluation.specs.Task.{Completion, Normal, Throw, Place, Variable, Property, Scope, Evaluate, Refer, Task, Done, Ask, ◌>>=◌, with_new, with_record}
+use Rattle.es5_evaluation.specs.Task.{Completion, Normal, Throw, Place, Variable, Property, Scope, Evaluate, Task, Done, Ask, ◌>>=◌, with_new, with_record}
 use Rattle.es5_evaluation.specs.Values.{holder_of, property_from}
 use Rattle.es5_evaluation.specs.Declared.{own_code, arguments_name}
-use Rattle.es5_evaluation.specs.Evaluate.{activation, all, arguments_object, call_place, call_with, enter, entered, gather, invoke, invoke_kind, left, normally, passed, perform, read_place, referred, run_body, this_of}
-use Rattle.es5_evaluation.proofs.Tasks.{then_assoc, done_then}
-use Rattle.es5_evaluation.proofs.TaskRuns.{run_asks}
+use Rattle.es5_evaluation.specs.Evaluate.{activation, all, arguments_object, call_place, call_with, enter, entered, invoke, invoke_kind, left, normally, passed, read_place, referred, run_body, this_of}
+use Rattle.es5_evaluation.proofs.Tasks.{then_assoc}
 use Rattle.es5_evaluation.proofs.Nodes as node
 use Rattle.es5_rules.specs.Steps.{Steps, Gives, Raises, Places, DoesAll, Gathers, Invoked}
-use Rattle.es5_rules.proofs.Steps.{steps_refl, steps_trans, steps_count, steps_seen, steps_from, steps_to, steps_begin, steps_look, steps_make, steps_enter}
+use Rattle.es5_rules.proofs.Steps.{steps_trans, steps_count, steps_from, steps_to, steps_begin, steps_look, steps_make, steps_enter}
 use Rattle.es5_rules.proofs.Expressions.{steps_name, steps_property}
 
 -- ---- the call of what a place holds

@@ -6,3 +6,4 @@ pub mod Making
 pub mod Calls
 pub mod Properties
 pub mod Trying
+pub mod Host

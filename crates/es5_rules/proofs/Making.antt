@@ -1,5 +1,5 @@
 -- Lists of expressions; the values that arrays, objects and functions written out make.
-use Rattle.std.proofs.Common.{◌≡◌, ℕ, suc, ◌+◌, true, false, List, [], ◌∷◌, ◌++◌, length, map, Option, None, Some, codes, refl, sym, ap, ◌∙◌, arith, append-nil, append_assoc}
+use Rattle.std.proofs.Common.{◌≡◌, ℕ, ◌+◌, List, [], ◌∷◌, ◌++◌, length, map, Option, Some, sym, ap, arith, append-nil, append_assoc}
 use Rattle.es5_tree.specs.declared.tree.EsExpr.{EsExpr}
 use Rattle.es5_tree.specs.declared.tree.EsKind.TheVariants as kind
 use Rattle.es5_tree.specs.declared.tree.EsStmt.{EsStmt}
@@ -8,10 +8,10 @@ use Rattle.es5_tree.specs.Objects.Cells.{Object, Function, new_cell}
 use Rattle.es5_tree.specs.Intrinsics.Made.{object_prototype, function_prototype}
 use Rattle.es5_tree.specs.Intrinsics.Rows.{array_of}
 use Rattle.es5_evaluation.specs.State.{Code, State}
-use Rattle.es5_evaluation.specs.Task.{Completion, Normal, Scope, Evaluate, Task, Ask, Make, ◌>>=◌, with_new, with_code}
-use Rattle.es5_evaluation.specs.Evaluate.{gather, gives, make_array, make_function, make_object, normally, with_properties}
+use Rattle.es5_evaluation.specs.Task.{Completion, Normal, Scope, Task, Make, ◌>>=◌, with_new, with_code}
+use Rattle.es5_evaluation.specs.Evaluate.{gather, make_array, make_function, make_object, normally, with_properties}
 use Rattle.es5_evaluation.proofs.Nodes as node
-use Rattle.es5_rules.specs.Steps.{Steps, Gives, Gathers}
+use Rattle.es5_rules.specs.Steps.{Gives, Gathers}
 use Rattle.es5_rules.proofs.Steps.{steps_refl, steps_trans, steps_count, steps_seen, steps_to, steps_begin, steps_make, steps_keep}
 
 -- ---- lists, from left to right

@@ -1,5 +1,5 @@
 -- Properties: by a key, what an assignment leaves, `delete`, and `typeof`.
-use Rattle.std.proofs.Common.{◌≡◌, ℕ, suc, ◌+◌, true, false, List, [], ◌∷◌, ◌++◌, length, Option, None, Some, codes, refl, sym, ap, ◌∙◌, arith, append-nil, append_assoc}
+use Rattle.std.proofs.Common.{◌≡◌, ℕ, ◌+◌, true, false, List, [], ◌++◌, Some, codes, ap, ◌∙◌, arith, append-nil}
 use Rattle.std.specs.Prelude.{if◌then◌else◌}
 use Rattle.opal_base.specs.declared.place.Pos.{Pos}
 use Rattle.es5_tree.specs.declared.tree.EsExpr.{EsExpr}
@@ -9,9 +9,9 @@ use Rattle.es5_tree.specs.Ends.{Conversion}
 use Rattle.es5_tree.specs.Objects.Cells.{put, delete, is_array_length}
 use Rattle.es5_tree.specs.Objects.Links.{cell_at}
 use Rattle.es5_evaluation.specs.State.{State, record_at, binding, value_in}
-use Rattle.es5_evaluation.specs.Task.{Completion, Normal, Refers, Place, Variable, Property, Scope, Request, Evaluate, Refer, Task, Done, Leaves, Ask, Set, ◌>>=◌, with_object}
+use Rattle.es5_evaluation.specs.Task.{Completion, Normal, Refers, Variable, Property, Scope, Request, Evaluate, Task, Leaves, Ask, Set, ◌>>=◌, with_object}
 use Rattle.es5_evaluation.specs.Values.{holder_of, key_of, or_undefined, property_from, type_name}
-use Rattle.es5_evaluation.specs.Evaluate.{Wanted, ItsValue, ItsPlace, access, access_at, access_from, access_key, can_put, delete_in, delete_place, delete_property, gives, normally, perform, place_from, put_in, read_property, referred, type_error, type_of, type_of_bound, type_of_place, write_place, write_property}
+use Rattle.es5_evaluation.specs.Evaluate.{ItsValue, ItsPlace, access, access_at, access_from, access_key, can_put, delete_in, delete_place, delete_property, gives, normally, perform, place_from, put_in, read_property, type_error, type_of, type_of_bound, type_of_place, write_place, write_property}
 use Rattle.es5_evaluation.proofs.Tasks.{then_assoc}
 use Rattle.es5_evaluation.proofs.Nodes as node
 use Rattle.es5_rules.specs.Steps.{Steps, Gives, Places}

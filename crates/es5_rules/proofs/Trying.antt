@@ -1,5 +1,5 @@
 -- What is thrown: out of an expression, and how `try` takes it and what runs at last.
-use Rattle.std.proofs.Common.{◌≡◌, ℕ, suc, ◌+◌, true, false, List, [], ◌∷◌, ◌++◌, length, Option, None, Some, codes, refl, sym, ap, ◌∙◌, arith, append-nil, append_assoc}
+use Rattle.std.proofs.Common.{◌≡◌, ℕ, ◌+◌, List, [], ◌∷◌, ◌++◌, length, Option, None, Some, ap, arith}
 use Rattle.es5_tree.specs.declared.tree.Catch.{Catch, Catch-F, roll-Catch}
 use Rattle.es5_tree.specs.declared.tree.EsExpr.{EsExpr}
 use Rattle.es5_tree.specs.declared.tree.EsKind.{EsKind}
@@ -7,12 +7,12 @@ use Rattle.es5_tree.specs.declared.tree.EsStmt.{EsStmt}
 use Rattle.es5_tree.specs.declared.tree.EsStmt.TheVariants as stmt
 use Rattle.es5_tree.specs.Values.{Val}
 use Rattle.es5_evaluation.specs.State.{Activation, State}
-use Rattle.es5_evaluation.specs.Task.{Completion, Normal, Throw, Scope, Request, Evaluate, Task, Done, Ask, ◌>>=◌, with_record}
-use Rattle.es5_evaluation.specs.Evaluate.{all, at_last, caught_by, instead, normally, perform, tried}
+use Rattle.es5_evaluation.specs.Task.{Completion, Throw, Scope, Request, Evaluate, Task, Done, Ask, ◌>>=◌, with_record}
+use Rattle.es5_evaluation.specs.Evaluate.{all, at_last, instead, normally, perform, tried}
 use Rattle.es5_evaluation.proofs.Tasks.{done_then, then_assoc}
 use Rattle.es5_evaluation.proofs.Nodes as node
 use Rattle.es5_rules.specs.Steps.{Steps, Raises, Does, DoesAll}
-use Rattle.es5_rules.proofs.Steps.{steps_refl, steps_trans, steps_count, steps_seen, steps_from, steps_to, steps_begin, steps_enter}
+use Rattle.es5_rules.proofs.Steps.{steps_refl, steps_trans, steps_count, steps_from, steps_to, steps_begin, steps_enter}
 
 -- ---- expressions
 
