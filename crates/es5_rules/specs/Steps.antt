@@ -1,11 +1,12 @@
 -- A task becomes another one.
 use Rattle.std.specs.Prelude.{◌≡◌, ℕ, ◌+◌, List, ◌++◌}
+use Rattle.opal_base.specs.declared.place.Pos.{Pos}
 use Rattle.es5_tree.specs.declared.tree.EsExpr.{EsExpr}
 use Rattle.es5_tree.specs.declared.tree.EsStmt.{EsStmt}
 use Rattle.es5_tree.specs.Values.{Val}
 use Rattle.es5_evaluation.specs.State.{State}
-use Rattle.es5_evaluation.specs.Task.{Completion, Normal, Refers, Place, Scope, Evaluate, Refer, Execute, Task, Ask, ◌>>=◌}
-use Rattle.es5_evaluation.specs.Evaluate.{all}
+use Rattle.es5_evaluation.specs.Task.{Completion, Normal, Refers, Throw, Place, Scope, Evaluate, Refer, Execute, Task, Ask, ◌>>=◌}
+use Rattle.es5_evaluation.specs.Evaluate.{all, gather, invoke}
 use Rattle.es5_evaluation.specs.Run.{run}
 use Rattle.es5_rules.specs.Moments.{moments}
 
@@ -29,3 +30,15 @@ pub record Does (t : EsStmt) (ρ : Scope) (s : State) (m : ℕ) (c : Completion)
 -- and a list of them
 pub record DoesAll (ts : List EsStmt) (ρ : Scope) (s : State) (m : ℕ) (c : Completion) (z : State) (vs : List State) : Type 0 where
   pub by : (k : Completion → Task) → Steps (all ts ρ >>= k) s m (k c) z vs
+
+-- an expression throws a value
+pub record Raises (e : EsExpr) (ρ : Scope) (s : State) (m : ℕ) (v : Val) (z : State) (vs : List State) : Type 0 where
+  pub by : (k : Completion → Task) → Steps (Ask (Evaluate e ρ) k) s m (k (Throw v)) z vs
+
+-- expressions have values, from left to right
+pub record Gathers (es : List EsExpr) (ρ : Scope) (s : State) (m : ℕ) (us : List Val) (z : State) (vs : List State) : Type 0 where
+  pub by : (before : List Val) (f : List Val → Task) (k : Completion → Task) → Steps (gather es ρ before f >>= k) s m (f (before ++ us) >>= k) z vs
+
+-- the call of a value with a `this` and arguments ends
+pub record Invoked (p : Pos) (f this : Val) (us : List Val) (s : State) (m : ℕ) (c : Completion) (z : State) (vs : List State) : Type 0 where
+  pub by : (k : Completion → Task) → Steps (invoke p f this us >>= k) s m (k c) z vs
