@@ -3,8 +3,11 @@ use Rattle.std.proofs.Common.{◌≡◌, ℕ, List, Some, refl, sym, ap, ◌∙�
 use Rattle.opal_base.specs.Outside.{FileMap}
 use Rattle.opal_base.specs.Shown.{Shown, Ended, Going, Shows}
 use Rattle.ruby_meaning.specs.declared.bundle.Bundle.{Bundle}
-use Rattle.ruby_meaning.specs.Run as ruby
-use Rattle.ruby_meaning.specs.Run.{RubyEnd, ruby_run}
+use Rattle.ruby_meaning.specs.declared.tree.Node.{Node}
+use Rattle.ruby_evaluation.specs.Ends as ruby
+use Rattle.ruby_evaluation.specs.Ends.{RubyEnd}
+use Rattle.ruby_evaluation.specs.Run.{ruby_run}
+use Rattle.ruby_evaluation.specs.Core.{IsCore, bundled}
 use Rattle.es5_tree.specs.declared.tree.Script.{Script}
 use Rattle.es5_tree.specs.Ends.{EsEnd}
 use Rattle.es5_tree.specs.Ends as es
@@ -18,12 +21,12 @@ use Rattle.es5_host.specs.declared.answer.OutKind.{OutKind as Kind}
 use Rattle.opal_base.specs.declared.place.Pos.{Pos}
 use Rattle.opal_cli.specs.declared.words.Budget.{Budget}
 use Rattle.opal_cli.specs.declared.status.Status.{Status}
-use Rattle.opal_cli.specs.Agree.{Agree, SameEnd}
+use Rattle.opal_cli.specs.Agree.{AgreeOver, SameEnd}
 use Rattle.opal_cli.specs.Answers.{AnswersAs, IsRun}
 use Rattle.opal_cli.specs.Words.{Exec}
 use Rattle.opal_cli.specs.Ends.{End, Wrote, UncaughtBy, Unread, RefusedAt, MissingFile, ReadFailed, WriteFailed, OutsideAt, StepsOver, CellsOver, NoScript, BadInputAt, OutOfMemory, TextTooLong, status_of}
 use Rattle.opal_cli.specs.Translation.{script_of}
-use Rattle.opal_cli.specs.Execution.{IsProgram, HasProgram, ExecAnswers, IsInputOf, RunsTo, RunAnswers, RubyShows, Executes}
+use Rattle.opal_cli.specs.Execution.{IsProgram, HasProgram, ExecAnswers, IsInputOf, RunsTo, RunAnswers, RubyShows, RubyShowsOver, Executes}
 
 -- the end of the script that was read back is that of the bundle's script
 same_end : (last : RubyEnd) (end other : EsEnd) → law.SameEnd end other → SameEnd last other → SameEnd last end
@@ -56,66 +59,66 @@ same_end ruby.NumberOutside (es.Outside kind place) (es.Uncaught c d) s t = absu
 same_end ruby.NumberOutside (es.Outside kind place) (es.Outside other there) s t = s ∙ t
 
 -- what Ruby's evaluation ends with
-abbrev RubyEnds : Bundle → Text → List ℕ → EsEnd → Type 0
-RubyEnds bundle input output end = (n : ℕ) × (last : RubyEnd) × (ruby_run bundle input n ≡ Ended output last) × SameEnd last end
+abbrev RubyEnds : Node → Bundle → Text → List ℕ → EsEnd → Type 0
+RubyEnds core bundle input output end = (n : ℕ) × (last : RubyEnd) × (ruby_run core (bundled bundle) input n ≡ Ended output last) × SameEnd last end
 
-ended_like : (bundle : Bundle) (script : Script) (input : Text) (n : ℕ) (output : List ℕ) (end : EsEnd) (other : Shown EsEnd) → Agree bundle script → es_run script input n ≡ other → SameShown (Ended output end) other → RubyEnds bundle input output end
-ended_like bundle script input n output end (Ended shown last) agree e s =
+ended_like : (core : Node) (bundle : Bundle) (script : Script) (input : Text) (n : ℕ) (output : List ℕ) (end : EsEnd) (other : Shown EsEnd) → AgreeOver core bundle script → es_run script input n ≡ other → SameShown (Ended output end) other → RubyEnds core bundle input output end
+ended_like core bundle script input n output end (Ended shown last) agree e s =
     let r = agree.ends_only input n shown last e in
     (r.0, r.1, r.2 ∙ ap (λ o. Ended o r.1) (sym s.0), same_end r.1 end last s.1 r.3)
-ended_like bundle script input n output end (Going shown) agree e s = absurd s
+ended_like core bundle script input n output end (Going shown) agree e s = absurd s
 
-goes_like : (bundle : Bundle) (script : Script) (input : Text) (n : ℕ) (output : List ℕ) (other : Shown EsEnd) → Agree bundle script → es_run script input n ≡ other → SameShown (Going output) other → (k : ℕ) × Shows (ruby_run bundle input k) output
-goes_like bundle script input n output (Ended shown last) agree e s = absurd s
-goes_like bundle script input n output (Going shown) agree e s =
+goes_like : (core : Node) (bundle : Bundle) (script : Script) (input : Text) (n : ℕ) (output : List ℕ) (other : Shown EsEnd) → AgreeOver core bundle script → es_run script input n ≡ other → SameShown (Going output) other → (k : ℕ) × Shows (ruby_run core (bundled bundle) input k) output
+goes_like core bundle script input n output (Ended shown last) agree e s = absurd s
+goes_like core bundle script input n output (Going shown) agree e s =
     let r = agree.goes_only input n shown e in
-    (r.0, subst (Shows (ruby_run bundle input r.0)) (sym s) r.1)
+    (r.0, subst (Shows (ruby_run core (bundled bundle) input r.0)) (sym s) r.1)
 
 same_shown : OneSpelled → ReadSpells → SitesDontMatter → (bundle : Bundle) (script : Script) → IsProgram bundle script → (input : Text) (n : ℕ) → SameShown (es_run script input n) (es_run (script_of bundle) input n)
 same_shown one spells sites bundle script p input n = sites script (script_of bundle) (one _ script (script_of bundle) (spells _ script p.reads) p.spells) input n
 
-ruby_ends : OneSpelled → ReadSpells → SitesDontMatter → (bundle : Bundle) (script : Script) → IsProgram bundle script → (input : Text) (n : ℕ) (output : List ℕ) (end : EsEnd) → es_run script input n ≡ Ended output end → RubyEnds bundle input output end
-ruby_ends one spells sites bundle script p input n output end e =
-    ended_like bundle (script_of bundle) input n output end _ p.agrees refl (subst (λ s. SameShown s (es_run (script_of bundle) input n)) e (same_shown one spells sites bundle script p input n))
+ruby_ends : OneSpelled → ReadSpells → SitesDontMatter → (core : Node) → IsCore core → (bundle : Bundle) (script : Script) → IsProgram bundle script → (input : Text) (n : ℕ) (output : List ℕ) (end : EsEnd) → es_run script input n ≡ Ended output end → RubyEnds core bundle input output end
+ruby_ends one spells sites core is bundle script p input n output end e =
+    ended_like core bundle (script_of bundle) input n output end _ (p.agrees core is) refl (subst (λ s. SameShown s (es_run (script_of bundle) input n)) e (same_shown one spells sites bundle script p input n))
 
-finished : (bundle : Bundle) (input : Text) (output : List ℕ) (n : ℕ) (last : RubyEnd) → ruby_run bundle input n ≡ Ended output last → SameEnd last es.Finished → RubyShows bundle input Wrote output
-finished bundle input output n ruby.Finished e s = (n, e)
-finished bundle input output n (ruby.Uncaught name message) e s = absurd s
-finished bundle input output n ruby.NumberOutside e s = absurd s
+finished : (core : Node) (bundle : Bundle) (input : Text) (output : List ℕ) (n : ℕ) (last : RubyEnd) → ruby_run core (bundled bundle) input n ≡ Ended output last → SameEnd last es.Finished → RubyShowsOver core bundle input Wrote output
+finished core bundle input output n ruby.Finished e s = (n, e)
+finished core bundle input output n (ruby.Uncaught name message) e s = absurd s
+finished core bundle input output n ruby.NumberOutside e s = absurd s
 
-uncaught : (bundle : Bundle) (input : Text) (output name message : List ℕ) (n : ℕ) (last : RubyEnd) → ruby_run bundle input n ≡ Ended output last → SameEnd last (es.Uncaught name message) → RubyShows bundle input (UncaughtBy name message) output
-uncaught bundle input output name message n ruby.Finished e s = absurd s
-uncaught bundle input output name message n (ruby.Uncaught other text) e s = (n, e ∙ ap (Ended output) (ap (λ x. ruby.Uncaught x text) s.0 ∙ ap (ruby.Uncaught name) s.1))
-uncaught bundle input output name message n ruby.NumberOutside e s = absurd s
+uncaught : (core : Node) (bundle : Bundle) (input : Text) (output name message : List ℕ) (n : ℕ) (last : RubyEnd) → ruby_run core (bundled bundle) input n ≡ Ended output last → SameEnd last (es.Uncaught name message) → RubyShowsOver core bundle input (UncaughtBy name message) output
+uncaught core bundle input output name message n ruby.Finished e s = absurd s
+uncaught core bundle input output name message n (ruby.Uncaught other text) e s = (n, e ∙ ap (Ended output) (ap (λ x. ruby.Uncaught x text) s.0 ∙ ap (ruby.Uncaught name) s.1))
+uncaught core bundle input output name message n ruby.NumberOutside e s = absurd s
 
-outside : (bundle : Bundle) (input : Text) (output : List ℕ) (kind : Kind) (pos : Pos) (n : ℕ) (last : RubyEnd) → ruby_run bundle input n ≡ Ended output last → SameEnd last (es.Outside (out_of kind) pos) → RubyShows bundle input (OutsideAt kind pos) output
-outside bundle input output kind pos n ruby.Finished e s = absurd s
-outside bundle input output kind pos n (ruby.Uncaught name message) e s = absurd s
-outside bundle input output kind pos n ruby.NumberOutside e s = (n, e)
+outside : (core : Node) (bundle : Bundle) (input : Text) (output : List ℕ) (kind : Kind) (pos : Pos) (n : ℕ) (last : RubyEnd) → ruby_run core (bundled bundle) input n ≡ Ended output last → SameEnd last (es.Outside (out_of kind) pos) → RubyShowsOver core bundle input (OutsideAt kind pos) output
+outside core bundle input output kind pos n ruby.Finished e s = absurd s
+outside core bundle input output kind pos n (ruby.Uncaught name message) e s = absurd s
+outside core bundle input output kind pos n ruby.NumberOutside e s = (n, e)
 
 -- the evaluation shows what the run of the script read back shows
 pub ruby_shows : OneSpelled → ReadSpells → SitesDontMatter → (bundle : Bundle) (script : Script) → IsProgram bundle script → (input : Text) (budget : Budget) (end : End) (output : List ℕ) → RunsTo script input budget end output → RubyShows bundle input end output
-ruby_shows one spells sites bundle script p input budget Wrote output r =
-    let t = ruby_ends one spells sites bundle script p input budget.steps output es.Finished r.shows in
-    finished bundle input output t.0 t.1 t.2 t.3
-ruby_shows one spells sites bundle script p input budget (UncaughtBy name message) output r =
-    let t = ruby_ends one spells sites bundle script p input budget.steps output (es.Uncaught name message) r.shows in
-    uncaught bundle input output name message t.0 t.1 t.2 t.3
-ruby_shows one spells sites bundle script p input budget (OutsideAt kind pos) output r =
-    let t = ruby_ends one spells sites bundle script p input budget.steps output (es.Outside (out_of kind) pos) r.shows in
-    outside bundle input output kind pos t.0 t.1 t.2 t.3
-ruby_shows one spells sites bundle script p input budget (StepsOver steps) output r =
-    goes_like bundle (script_of bundle) input budget.steps output _ p.agrees refl (subst (λ s. SameShown s (es_run (script_of bundle) input budget.steps)) r.1.shows (same_shown one spells sites bundle script p input budget.steps))
-ruby_shows one spells sites bundle script p input budget (CellsOver cells) output r = tt
-ruby_shows one spells sites bundle script p input budget Unread output r = absurd r
-ruby_shows one spells sites bundle script p input budget (RefusedAt file pos construct) output r = absurd r
-ruby_shows one spells sites bundle script p input budget (MissingFile name) output r = absurd r
-ruby_shows one spells sites bundle script p input budget ReadFailed output r = absurd r
-ruby_shows one spells sites bundle script p input budget WriteFailed output r = absurd r
-ruby_shows one spells sites bundle script p input budget (NoScript file pos) output r = absurd r
-ruby_shows one spells sites bundle script p input budget (BadInputAt offset) output r = absurd r
-ruby_shows one spells sites bundle script p input budget OutOfMemory output r = absurd r
-ruby_shows one spells sites bundle script p input budget TextTooLong output r = absurd r
+ruby_shows one spells sites bundle script p input budget Wrote output r core is =
+    let t = ruby_ends one spells sites core is bundle script p input budget.steps output es.Finished r.shows in
+    finished core bundle input output t.0 t.1 t.2 t.3
+ruby_shows one spells sites bundle script p input budget (UncaughtBy name message) output r core is =
+    let t = ruby_ends one spells sites core is bundle script p input budget.steps output (es.Uncaught name message) r.shows in
+    uncaught core bundle input output name message t.0 t.1 t.2 t.3
+ruby_shows one spells sites bundle script p input budget (OutsideAt kind pos) output r core is =
+    let t = ruby_ends one spells sites core is bundle script p input budget.steps output (es.Outside (out_of kind) pos) r.shows in
+    outside core bundle input output kind pos t.0 t.1 t.2 t.3
+ruby_shows one spells sites bundle script p input budget (StepsOver steps) output r core is =
+    goes_like core bundle (script_of bundle) input budget.steps output _ (p.agrees core is) refl (subst (λ s. SameShown s (es_run (script_of bundle) input budget.steps)) r.1.shows (same_shown one spells sites bundle script p input budget.steps))
+ruby_shows one spells sites bundle script p input budget (CellsOver cells) output r core is = tt
+ruby_shows one spells sites bundle script p input budget Unread output r core is = absurd r
+ruby_shows one spells sites bundle script p input budget (RefusedAt file pos construct) output r core is = absurd r
+ruby_shows one spells sites bundle script p input budget (MissingFile name) output r core is = absurd r
+ruby_shows one spells sites bundle script p input budget ReadFailed output r core is = absurd r
+ruby_shows one spells sites bundle script p input budget WriteFailed output r core is = absurd r
+ruby_shows one spells sites bundle script p input budget (NoScript file pos) output r core is = absurd r
+ruby_shows one spells sites bundle script p input budget (BadInputAt offset) output r core is = absurd r
+ruby_shows one spells sites bundle script p input budget OutOfMemory output r core is = absurd r
+ruby_shows one spells sites bundle script p input budget TextTooLong output r core is = absurd r
 
 -- the run on the input of a status of a run that began
 on_input : (input : Option (List ℕ)) (script : Script) (budget : Budget) (end : End) (output : List ℕ) → IsRun (status_of end) → RunAnswers input script budget end output → (text : Text) × IsInputOf input text × RunsTo script text budget end output

@@ -2,7 +2,7 @@
 use Rattle.std.proofs.Common.{◌≡◌, ℕ, ◌<◌, ◌^◌, List, length, map, ◌∙◌, subst, arith}
 use Rattle.opal_base.specs.declared.place.Pos.{Pos}
 use Rattle.ruby_meaning.specs.declared.bundle.Bundle.{Bundle}
-use Rattle.ruby_meaning.specs.Eval.{puts_text}
+use Rattle.ruby_meaning.specs.Puts.{puts_text}
 use Rattle.ruby_meaning.specs.Puts.{putting}
 use Rattle.es5_tree.specs.declared.tree.Script.{Script}
 use Rattle.es5_tree.specs.Grammar.Laws.{NotScriptOrRead}

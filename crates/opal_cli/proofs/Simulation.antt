@@ -6,17 +6,21 @@ use Rattle.opal_base.specs.declared.place.Pos.{Pos}
 use Rattle.opal_base.specs.Text.{utf8_of}
 use Rattle.opal_base.specs.Shown.{Shown, Ended, Going, Shows, ShowsInTurn}
 use Rattle.ruby_meaning.specs.declared.bundle.Bundle.{Bundle}
-use Rattle.ruby_meaning.specs.Eval.{puts_text}
+use Rattle.ruby_meaning.specs.Puts.{puts_text}
 use Rattle.ruby_meaning.specs.Puts.{putting}
-use Rattle.ruby_meaning.specs.Run.{RubyEnd, ruby_run}
-use Rattle.ruby_meaning.specs.Run as ruby
-use Rattle.ruby_meaning.specs.Laws.{OnlyPuts, PutsInTurn}
+use Rattle.ruby_meaning.specs.declared.tree.Node.{Node}
+use Rattle.ruby_meaning.specs.Laws.{OnlyPuts}
+use Rattle.ruby_evaluation.specs.Ends.{RubyEnd}
+use Rattle.ruby_evaluation.specs.Ends as ruby
+use Rattle.ruby_evaluation.specs.Run.{ruby_run}
+use Rattle.ruby_evaluation.specs.Core.{bundled}
+use Rattle.ruby_evaluation.specs.Laws.{PutsInTurn}
 use Rattle.es5_tree.specs.declared.tree.Script.{Script}
 use Rattle.es5_tree.specs.Ends.{OutKind, Number}
 use Rattle.es5_tree.specs.Ends as es
 use Rattle.es5_evaluation.specs.Run.{es_run}
 use Rattle.es5_laws.specs.Laws.{WritesInTurn}
-use Rattle.opal_cli.specs.Agree.{SameEnd, Agree}
+use Rattle.opal_cli.specs.Agree.{SameEnd, AgreeOver}
 use Rattle.opal_cli.specs.Translation.{script_of}
 use Rattle.opal_cli.specs.Laws.{Agreement}
 
@@ -45,18 +49,18 @@ ends_too other texts last output t e = (t.enough, t.ends t.enough (omega arith) 
 only_number : (output other : List ℕ) (kind : OutKind) (place : Pos) → Ended output es.Finished ≡ Ended other (es.Outside kind place) → kind ≡ Number
 only_number output other kind place e = cc
 
-in_turn : (bundle : Bundle) (script : Script) (texts : List (List ℕ)) → ((input : List ℕ) → ShowsInTurn (ruby_run bundle input) texts ruby.Finished) → ((input : List ℕ) → ShowsInTurn (es_run script input) texts es.Finished) → Agree bundle script
-in_turn bundle script texts f g = record {
+in_turn : (core : Node) (bundle : Bundle) (script : Script) (texts : List (List ℕ)) → ((input : List ℕ) → ShowsInTurn (ruby_run core (bundled bundle) input) texts ruby.Finished) → ((input : List ℕ) → ShowsInTurn (es_run script input) texts es.Finished) → AgreeOver core bundle script
+in_turn core bundle script texts f g = record {
   ends = λ input n output end e.
-      let a = ended_so (ruby_run bundle input) texts ruby.Finished end n output (f input) e in
+      let a = ended_so (ruby_run core (bundled bundle) input) texts ruby.Finished end n output (f input) e in
       let b = ends_too (es_run script input) texts es.Finished output (g input) a.0 in
       (b.0, es.Finished, b.1, subst (λ x. SameEnd x es.Finished) (sym a.1) tt);
   ends_only = λ input m output other e.
       let a = ended_so (es_run script input) texts es.Finished other m output (g input) e in
-      let b = ends_too (ruby_run bundle input) texts ruby.Finished output (f input) a.0 in
+      let b = ends_too (ruby_run core (bundled bundle) input) texts ruby.Finished output (f input) a.0 in
       (b.0, ruby.Finished, b.1, subst (SameEnd ruby.Finished) (sym a.1) tt);
-  goes = λ input n output e. shown_too (ruby_run bundle input) (es_run script input) texts ruby.Finished es.Finished n output (f input) (g input) e;
-  goes_only = λ input m output e. shown_too (es_run script input) (ruby_run bundle input) texts es.Finished ruby.Finished m output (g input) (f input) e;
+  goes = λ input n output e. shown_too (ruby_run core (bundled bundle) input) (es_run script input) texts ruby.Finished es.Finished n output (f input) (g input) e;
+  goes_only = λ input m output e. shown_too (es_run script input) (ruby_run core (bundled bundle) input) texts es.Finished ruby.Finished m output (g input) (f input) e;
   outside = λ input m output kind place e.
       let a = ended_so (es_run script input) texts es.Finished (es.Outside kind place) m output (g input) e in
       let b = a.1 in cc;
@@ -65,6 +69,6 @@ in_turn bundle script texts f g = record {
 -- ---- the law
 
 pub agreement_by : OnlyPuts → PutsInTurn → WritesInTurn → Agreement
-agreement_by only turn es_turn bundle sound =
+agreement_by only turn es_turn bundle sound core is =
     let texts = map puts_text (putting bundle.main.program.body).texts in
-    in_turn bundle (script_of bundle) texts (λ input. turn bundle input (only bundle sound)) (es_turn texts)
+    in_turn core bundle (script_of bundle) texts (λ input. turn core bundle input is (only bundle sound)) (es_turn texts)

@@ -8,8 +8,10 @@ use Rattle.opal_base.specs.Text.{IsDecoded}
 use Rattle.opal_base.specs.declared.place.Pos.{Pos}
 use Rattle.ruby_meaning.specs.Load.{place}
 use Rattle.ruby_meaning.specs.declared.bundle.Bundle.{Bundle}
-use Rattle.ruby_meaning.specs.Run as ruby
-use Rattle.ruby_meaning.specs.Run.{ruby_run}
+use Rattle.ruby_meaning.specs.declared.tree.Node.{Node}
+use Rattle.ruby_evaluation.specs.Ends as ruby
+use Rattle.ruby_evaluation.specs.Run.{ruby_run}
+use Rattle.ruby_evaluation.specs.Core.{IsCore, bundled}
 use Rattle.ruby_meaning.specs.Load.{Loads, Whole, Missing, Refused}
 use Rattle.es5_tree.specs.declared.tree.Script.{Script}
 use Rattle.es5_tree.specs.Depth.{script_depth}
@@ -245,13 +247,17 @@ ExecWith files input file budget end old new = (output : List ℕ) × ExecAnswer
 
 -- ---- what executing a program says of Ruby
 
--- Ruby's evaluation ends so with this output, or shows it where the run goes on
+-- with this core library Ruby's evaluation ends so with this output, or shows it where the run goes on
+abbrev pub RubyShowsOver : Node → Bundle → Text → End → List ℕ → Type 0
+RubyShowsOver core bundle input Wrote output = (n : ℕ) × (ruby_run core (bundled bundle) input n ≡ Ended output ruby.Finished)
+RubyShowsOver core bundle input (UncaughtBy name message) output = (n : ℕ) × (ruby_run core (bundled bundle) input n ≡ Ended output (ruby.Uncaught name message))
+RubyShowsOver core bundle input (OutsideAt kind pos) output = (n : ℕ) × (ruby_run core (bundled bundle) input n ≡ Ended output ruby.NumberOutside)
+RubyShowsOver core bundle input (StepsOver steps) output = (n : ℕ) × Shows (ruby_run core (bundled bundle) input n) output
+RubyShowsOver core bundle input _ output = ⊤
+
+-- so it is whatever node the core library's program is
 abbrev pub RubyShows : Bundle → Text → End → List ℕ → Type 0
-RubyShows bundle input Wrote output = (n : ℕ) × (ruby_run bundle input n ≡ Ended output ruby.Finished)
-RubyShows bundle input (UncaughtBy name message) output = (n : ℕ) × (ruby_run bundle input n ≡ Ended output (ruby.Uncaught name message))
-RubyShows bundle input (OutsideAt kind pos) output = (n : ℕ) × (ruby_run bundle input n ≡ Ended output ruby.NumberOutside)
-RubyShows bundle input (StepsOver steps) output = (n : ℕ) × Shows (ruby_run bundle input n) output
-RubyShows bundle input _ output = ⊤
+RubyShows bundle input end output = (core : Node) → IsCore core → RubyShowsOver core bundle input end output
 
 -- The file loads to a bundle; on the input its script ends with this status; out took its output; and Ruby's evaluation shows the same.
 pub record Executes (files : FileMap) (input : Option (List ℕ)) (file : List ℕ) (budget : Budget) (answer : Status) (old new : Option (List ℕ)) : Type 0 where

@@ -2,7 +2,7 @@
 use Rattle.std.specs.Prelude.{ℕ, ◌<◌, ◌^◌, List, map}
 use Rattle.std.specs.List.{AllByRecursion}
 use Rattle.ruby_meaning.specs.declared.bundle.Bundle.{Bundle}
-use Rattle.ruby_meaning.specs.Eval.{puts_text}
+use Rattle.ruby_meaning.specs.Puts.{puts_text}
 use Rattle.ruby_meaning.specs.Puts.{putting}
 use Rattle.es5_tree.specs.declared.tree.EsStmt.{EsStmt}
 use Rattle.es5_tree.specs.declared.tree.Script.{Script}

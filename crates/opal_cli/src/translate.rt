@@ -1,8 +1,8 @@
 ghost use Rattle.std.specs.Prelude.{◌≡◌, ◌<◌, ◌^◌, List, [], ◌∷◌, ◌++◌, map, IfOk, option_to_list};
 ghost use Rattle.std.specs.Option.{option_copied};
 ghost use Rattle.std.specs.List.{AllByRecursion};
-ghost use Rattle.ruby_meaning.specs.Eval.{puts_text};
-ghost use Rattle.ruby_meaning.specs.Eval as spec_of;
+ghost use Rattle.ruby_meaning.specs.Puts.{puts_text};
+ghost use Rattle.ruby_meaning.specs.Puts as spec_of;
 ghost use Rattle.ruby_meaning.specs.Load.{IsSound};
 ghost use Rattle.ruby_meaning.specs.Puts.{all_texts, putting};
 ghost use Rattle.es5_tree.specs.Grammar.Spelling.{EsSpells};
