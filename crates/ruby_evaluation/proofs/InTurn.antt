@@ -7,7 +7,7 @@ use Rattle.std.proofs.lemmas.List.{take-map, take_all, length-map, length-append
 use Rattle.std.proofs.lemmas.Slice.Eq.{bytes_eq-Decides}
 use Rattle.std.proofs.Math.Seq.{take-append-add}
 use Rattle.std.proofs.lemmas.Bool.{cases_lt, false≢true}
-use Rattle.opal_base.specs.Shown.{Wrote, output_of, Shown, Ended, Going, Shows, ShowsInTurn}
+use Rattle.opal_base.specs.Shown.{Wrote, Shown, Ended, Going, Shows, ShowsInTurn}
 use Rattle.opal_base.specs.Text.{utf8_of}
 use Rattle.opal_base.specs.declared.place.Pos.{Pos}
 use Rattle.ruby_meaning.specs.declared.bundle.Bundle.{Bundle}
@@ -34,6 +34,7 @@ use Rattle.ruby_evaluation.specs.Nodes.{act, me, with_block}
 use Rattle.ruby_evaluation.specs.Run.{boot, eval_to, outcome, shown, ruby_run}
 use Rattle.ruby_evaluation.specs.Core.{IsEmpty, bundled}
 use Rattle.ruby_evaluation.specs.Laws.{PutsInTurn}
+use Rattle.ruby_evaluation.proofs.Longer.{written}
 
 -- where a program runs: the files, the place of its nodes, and the state, in which nothing is found by `puts`
 record Setting : Type 0 where
@@ -349,10 +350,6 @@ node_meets = ind-Node (λ b. ⊤) KindMeets (λ f. ⊤) NodeMeets (λ p. ⊤)
     (λ x y is. tt)
 
 -- ---- the program
-
--- what the calls wrote
-abbrev written : List Moment → List ℕ
-written calls = output_of (map (λ m. m.call) calls)
 
 written_after : (w : Setting) (texts : List Text) (c : List Moment) → written (after w texts c) ≡ written c ++ flat_map utf8_of (map puts_text texts)
 written_after w [] c = sym (append-nil _)

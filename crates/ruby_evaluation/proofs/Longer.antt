@@ -13,7 +13,7 @@ use Rattle.ruby_evaluation.specs.Laws.{calls_of, HasEnded, with_left, EndStays, 
 use Rattle.ruby_evaluation.proofs.Next.{more_units, calls_grow}
 
 -- what the calls wrote
-abbrev written : List Moment → List ℕ
+abbrev pub written : List Moment → List ℕ
 written calls = output_of (map (λ m. m.call) calls)
 
 written_both : (later calls : List Moment) → written (later ++ calls) ≡ written calls ++ written later

@@ -78,6 +78,10 @@ OneEnd = (core : Node) (b : Bundled) (input : Text) (n m : ℕ) (output other : 
 abbrev pub OutputGrows : Type 0
 OutputGrows = (core : Node) (b : Bundled) (input : Text) (n k : ℕ) (output : List ℕ) → Shows (ruby_run core b input n) output → (more : List ℕ) × Shows (ruby_run core b input (n + k)) (output ++ more)
 
+-- there is a core library's program
+abbrev pub SomeCore : Type 0
+SomeCore = (core : Node) × IsCore core
+
 -- a program of calls of `puts` with one text writes the texts one after the other and finishes
 abbrev pub PutsInTurn : Type 0
 PutsInTurn = (core : Node) (bundle : Bundle) (input : Text) → IsCore core → (putting bundle.main.program.body).only_puts ≡ true

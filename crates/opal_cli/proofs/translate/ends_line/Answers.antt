@@ -1,5 +1,5 @@
 use Rattle.std.proofs.Common.{◌≡◌, ◌≤◌, ℕ, ◌-◌, eqb, List, [], ◌∷◌, length, get_or, refl, ◌∙◌, ap, sym, arith}
-use Rattle.ruby_meaning.specs.Eval.{ends_line}
+use Rattle.ruby_meaning.specs.Puts.{ends_line}
 use Rattle.opal_cli.proofs.translate.ends_line.Goals as goal
 
 last_is : (unit : ℕ) (text : List ℕ) → ends_line (unit ∷ text) ≡ eqb (get_or (unit ∷ text) (length text) 0) 10

@@ -1,5 +1,5 @@
 use Rattle.std.proofs.Common.{map}
-use Rattle.ruby_meaning.specs.Eval.{puts_text}
+use Rattle.ruby_meaning.specs.Puts.{puts_text}
 use Rattle.ruby_meaning.specs.Puts.{putting}
 use Rattle.opal_cli.specs.Translation.{script_of}
 use Rattle.opal_cli.proofs.Spellings.{writes_spellable}
