@@ -97,6 +97,7 @@ steps_passed p g code outer that ws s z m u vs k h a =
     (λ n. run_looks n (λ y. invoke_kind (stopped p) p (cell_at y.heap g).kind y g that ws >>= k) s ∙ ap (λ q. run n (invoke_kind (stopped p) p q s g that ws >>= k) s) h ∙ ap (λ q. run n (invoke_kind (passed p) p q s g that ws >>= k) s) (sym h) ∙ sym (run_looks n (λ y. invoke_kind (passed p) p (cell_at y.heap g).kind y g that ws >>= k) s))
     (λ n. moments_looks n (λ y. invoke_kind (stopped p) p (cell_at y.heap g).kind y g that ws >>= k) s ∙ ap (λ q. moments n (invoke_kind (stopped p) p q s g that ws >>= k) s) h ∙ ap (λ q. moments n (invoke_kind (passed p) p q s g that ws >>= k) s) (sym h) ∙ sym (moments_looks n (λ y. invoke_kind (passed p) p (cell_at y.heap g).kind y g that ws >>= k) s)))
     a)
+
 pub row_invokes : (p : Pos) (f : ℕ) (which : HostFn) (this : Val) (us : List Val) (g code outer : ℕ) (that : Val) (ws : List Val) (s z : State) (m : ℕ) (c : Completion) (vs : List State) → Intrinsic s f which → row which s.heap s.lines this us ≡ row_kind.Invokes g that ws → (cell_at s.heap g).kind ≡ cells.Function code outer → Invoked p (Obj g) that ws s m c z vs → Invoked p (Obj f) this us s m c z vs
 unfolding row_task
 row_invokes p f which this us g code outer that ws s z m c vs i e h a = record {
