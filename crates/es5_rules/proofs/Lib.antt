@@ -7,3 +7,5 @@ pub mod Calls
 pub mod Properties
 pub mod Trying
 pub mod Host
+pub mod Records
+pub mod Models
