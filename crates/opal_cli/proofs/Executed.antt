@@ -3,8 +3,7 @@ use Rattle.std.proofs.Common.{◌≡◌, ℕ, List, Some, refl, sym, ap, ◌∙�
 use Rattle.opal_base.specs.Outside.{FileMap}
 use Rattle.opal_base.specs.Shown.{Shown, Ended, Going, Shows}
 use Rattle.ruby_meaning.specs.declared.bundle.Bundle.{Bundle}
-use Rattle.ruby_meaning.specs.declared.tree.Node.{Node}
-use Rattle.ruby_evaluation.specs.Core.{IsCore, bundled}
+use Rattle.ruby_evaluation.specs.Core.{bundled}
 use Rattle.ruby_evaluation.specs.Ends.{RubyEnd}
 use Rattle.ruby_evaluation.specs.Ends as ruby
 use Rattle.ruby_evaluation.specs.Run.{ruby_run}

@@ -5,7 +5,6 @@ use Rattle.std.proofs.lemmas.Bool.{cases_lt}
 use Rattle.opal_base.specs.declared.place.Pos.{Pos}
 use Rattle.opal_base.specs.Text.{utf8_of}
 use Rattle.opal_base.specs.Shown.{Shown, Ended, Going, Shows, ShowsInTurn}
-use Rattle.ruby_meaning.specs.declared.bundle.Bundle.{Bundle}
 use Rattle.ruby_meaning.specs.Puts.{putting, puts_text}
 use Rattle.ruby_meaning.specs.Laws.{OnlyPuts}
 use Rattle.ruby_evaluation.specs.Core.{bundled}
@@ -13,7 +12,6 @@ use Rattle.ruby_evaluation.specs.Ends.{RubyEnd}
 use Rattle.ruby_evaluation.specs.Ends as ruby
 use Rattle.ruby_evaluation.specs.Laws.{PutsInTurn}
 use Rattle.ruby_evaluation.specs.Run.{ruby_run}
-use Rattle.es5_tree.specs.declared.tree.Script.{Script}
 use Rattle.es5_tree.specs.Ends.{EsEnd, OutKind, Number}
 use Rattle.es5_tree.specs.Ends as es
 use Rattle.es5_evaluation.specs.Run.{es_run}
