@@ -3,3 +3,9 @@ pub mod Bind
 pub mod Walking
 pub mod Agreeing
 pub mod Whole
+pub mod Growing
+pub mod NamesDiffer
+pub mod Records
+pub mod Holding
+pub mod Entering
+pub mod Laters

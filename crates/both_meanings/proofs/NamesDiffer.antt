@@ -1,0 +1,27 @@
+-- Names of different kinds differ, and so do those of different numbers or locals.
+use Rattle.std.proofs.Common.{◌≡◌, ◌⊎◌, inl, inr, ⊎_elim, ℕ, zero, suc, ◌+◌, ◌*◌, ◌/◌, ◌%◌, ◌<◌, ◌≤◌, Bool, true, false, List, [], ◌∷◌, ◌++◌, refl, sym, ap, ◌∙◌, subst, arith, codes}
+use Rattle.std.specs.List.{flat_map}
+use Rattle.es5_tree.specs.Values.{Text}
+use Rattle.es5_tree.specs.Objects.Names.{decimal, number_of}
+use Rattle.es5_tree.proofs.ObjectProperties.{number_decimal}
+use Rattle.ruby_evaluation.specs.Tables.{Name}
+use Rattle.both_meanings.specs.Names.{temp, local, is_plain, hex, spelled, IsKept}
+
+pub tail_same : (a b : ℕ) (x y : List ℕ) → a ∷ b ∷ x ≡ a ∷ b ∷ y → x ≡ y
+tail_same a b x y e = cc
+
+pub head_same : (a b : ℕ) (x y : List ℕ) → a ∷ x ≡ b ∷ y → a ≡ b
+head_same a b x y e = cc
+
+pub temps_differ : (m n : ℕ) → (m ≡ n → ⊥) → temp m ≡ temp n → ⊥
+temps_differ m n h e = h (sym (number_decimal m) ∙ ap number_of (tail_same 116 36 (decimal m) (decimal n) e) ∙ number_decimal n)
+
+pub local_temp : (x : Name) (n : ℕ) → local x ≡ temp n → ⊥
+local_temp x n e = let f : 108 ≡ 116 = head_same 108 116 _ _ e in absurd (omega (arith, f))
+
+-- a name that begins with "$"
+pub kept_name : (x y : Text) → x ≡ 36 ∷ y → IsKept x
+kept_name x y e = record {
+  no_temp = λ n i. let f : 116 ≡ 36 = head_same 116 36 _ _ (i ∙ e) in absurd (omega (arith, f));
+  no_local = λ z i. let f : 108 ≡ 36 = head_same 108 36 _ _ (i ∙ e) in absurd (omega (arith, f));
+}
