@@ -9,3 +9,4 @@ pub mod Records
 pub mod Holding
 pub mod Entering
 pub mod Laters
+pub mod Bodies
