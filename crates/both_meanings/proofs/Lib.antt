@@ -10,3 +10,4 @@ pub mod Holding
 pub mod Entering
 pub mod Laters
 pub mod Bodies
+pub mod Finding
