@@ -11,3 +11,4 @@ pub mod Entering
 pub mod Laters
 pub mod Bodies
 pub mod Finding
+pub mod Starting

@@ -23,7 +23,7 @@ same_or_not (suc q) (suc r) = ⊎_elim (λ e. inl (ap suc e)) (λ n. inr (λ e. 
 
 -- ---- the names of a record decide what it binds
 
-found_stands : (ps : List (Text × Val)) (x : Text) → is_some (find_own ps x) ≡ stands x (map (λ p. p.0) ps)
+pub found_stands : (ps : List (Text × Val)) (x : Text) → is_some (find_own ps x) ≡ stands x (map (λ p. p.0) ps)
 unfolding find_own
 found_stands [] x = refl
 found_stands (p ∷ ps) x = ⊎_elim (λ (e : bytes_eq p.0 x ≡ true). rw e refl) (λ (e : bytes_eq p.0 x ≡ false). rw e (found_stands ps x)) (true_or_false (bytes_eq p.0 x))
@@ -31,7 +31,7 @@ found_stands (p ∷ ps) x = ⊎_elim (λ (e : bytes_eq p.0 x ≡ true). rw e ref
 pub binds_shape : (a : Activation) (x : Text) → binds a x ≡ bound_in (shape_of a) x
 binds_shape a x = ap (λ b. b || is_some (find_own a.constants x)) (found_stands a.variables x)
 
-same_names : (ps : List (Text × Val)) (x : Text) (v : Val) → stands x (map (λ p. p.0) ps) ≡ true → map (λ p. p.0) (with_property ps x v) ≡ map (λ p. p.0) ps
+pub same_names : (ps : List (Text × Val)) (x : Text) (v : Val) → stands x (map (λ p. p.0) ps) ≡ true → map (λ p. p.0) (with_property ps x v) ≡ map (λ p. p.0) ps
 unfolding with_property
 same_names [] x v h = cc
 same_names (p ∷ ps) x v h = ⊎_elim (λ (e : bytes_eq p.0 x ≡ true). rw e refl) (λ (e : bytes_eq p.0 x ≡ false). rw e (ap (λ l. p.0 ∷ l) (same_names ps x v (ap (λ b. b || stands x (map (λ q. q.0) ps)) (sym e) ∙ h)))) (true_or_false (bytes_eq p.0 x))
