@@ -4,16 +4,16 @@ use Rattle.std.specs.Prelude.{◌==◌}
 use Rattle.std.proofs.lemmas.Bool.{eq-eqb, eqb-true}
 use Rattle.std.proofs.lemmas.List.{length-append, get_or_append_left, get_or_push}
 use Rattle.ruby_meaning.specs.declared.value.Value.{Value}
-use Rattle.es5_tree.specs.Values.{Text, Val, Truth, find_own}
+use Rattle.es5_tree.specs.Values.{Text, Val, Truth, Obj, find_own}
 use Rattle.es5_evaluation.specs.State.{Activation, record_at, value_in}
 use Rattle.es5_evaluation.specs.State as es
 use Rattle.es5_evaluation.specs.Task.{with_record}
 use Rattle.ruby_evaluation.specs.Tables.{Name, at}
 use Rattle.ruby_evaluation.specs.State.{Frame, Ruby, frame_at, with_new_frame, no_frame}
 use Rattle.ruby_evaluation.specs.Task.{State, changed}
-use Rattle.both_meanings.specs.Names.{local, IsKept}
+use Rattle.both_meanings.specs.Names.{local, module_name, IsKept}
 use Rattle.both_meanings.specs.Carries.{Heap}
-use Rattle.both_meanings.specs.World.{Shape, shape_of, Framed, Target, OfFrame, OfCall, Role, Token, Carrier, Listed, World, Grows, IsValue}
+use Rattle.both_meanings.specs.World.{Shape, shape_of, Framed, Target, OfFrame, OfCall, Role, Token, Carrier, Listed, World, Grows, IsValue, bound_in, bound_around, Sees, SeesModule, SeesModules}
 use Rattle.both_meanings.specs.Holds.{Scheme, Shapes, IsTarget, Serves, variable_at, FrameHolds, RecordsHold, ObjectsHold, IsProc, Holds}
 use Rattle.both_meanings.specs.Simulates.{Later}
 use Rattle.both_meanings.proofs.Growing.{value_grows, sees_grows, modules_grow, home_grows, frame_is_grows, is_entry_grows}
@@ -65,6 +65,30 @@ entered w r sh values k f = record {
   role = w.role;
 }
 
+-- whatever record of that shape stands there
+pub entered_shapes : {w : World} {rs : List Activation} → Shapes w rs → (a : Activation) (sh : Shape) (values : Text → Option Val) (k : ℕ) (f : Framed) → shape_of a ≡ sh → Shapes (entered w (length rs) sh values k f) (rs ++ a ∷ [])
+entered_shapes {w} {rs} h a sh values k f e = record { by = one }
+  where
+    longer : length (rs ++ a ∷ []) ≡ suc (length rs)
+    longer = length-append rs (a ∷ []) ∙ omega arith
+
+    one : (q : ℕ) (sh1 : Shape) → (entered w (length rs) sh values k f).shape q ≡ Some sh1 → (q < length (rs ++ a ∷ [])) × (shape_of (record_at (rs ++ a ∷ []) q) ≡ sh1)
+    one q sh1 i = ⊎_elim
+        (λ (j : q ≡ length rs). (omega (arith, j, longer), ap (λ n. shape_of (record_at (rs ++ a ∷ []) n)) j ∙ ap shape_of (record_new rs a) ∙ e ∙ some_same _ _ (sym (chosen q (length rs) (Some sh) (w.shape q) j) ∙ i)))
+        (λ n. let o = h.by q sh1 (sym (passed q (length rs) (Some sh) (w.shape q) n) ∙ i) in (omega (arith, o.0, longer), ap shape_of (record_kept rs a q o.0) ∙ o.1))
+        (same_or_not q (length rs))
+
+-- a name that the new record doesn't bind is seen through it
+pub sees_around : (w : World) (r o : ℕ) (sh : Shape) (x : Text) (u : Val) → w.shape r ≡ Some sh → bound_in sh x ≡ false → sh.outer ≡ Some o → o < r → Sees w o x u → Sees w r x u
+sees_around w r o sh x u e free out less i = record { at = i.at; binds = bound_around r o i.at x sh e free out less i.binds; is = i.is }
+
+pub module_around : (w : World) (r o : ℕ) (sh : Shape) (x : Text) (k : ℕ) → w.shape r ≡ Some sh → bound_in sh x ≡ false → sh.outer ≡ Some o → o < r → SeesModule w o x k → SeesModule w r x k
+module_around w r o sh x k e free out less i = record { o = i.o; object = i.object; sees = sees_around w r o sh x (Obj i.o) e free out less i.sees }
+
+pub modules_around : (w : World) (r o : ℕ) (sh : Shape) (ks : List ℕ) → w.shape r ≡ Some sh → ((n : ℕ) → bound_in sh (module_name n) ≡ false) → sh.outer ≡ Some o → o < r → SeesModules w o ks → SeesModules w r ks
+modules_around w r o sh [] e free out less i = tt
+modules_around w r o sh (k ∷ ks) e free out less i = (module_around w r o sh (module_name (length (k ∷ ks))) k e (free (length (k ∷ ks))) out less i.0, modules_around w r o sh ks e free out less i.1)
+
 module _ {T : Scheme} {w : World} {st : State} {s : es.State} (h : Holds T w st s) (a : Activation) (values : Text → Option Val) (f : Framed) (fr : Frame) where
   abbrev r : ℕ
   r = length s.records
@@ -108,12 +132,6 @@ module _ {T : Scheme} {w : World} {st : State} {s : es.State} (h : Holds T w st 
   }
 
   module _ (fixed : (x : Text) (u : Val) → values x ≡ Some u → IsKept x × (value_in a x ≡ Some u)) (place : f.record_at ≡ r) (frame : FrameHolds w1 rs1 k f fr) where
-    shapes1 : (q : ℕ) (sh : Shape) → w1.shape q ≡ Some sh → (q < length rs1) × (shape_of (record_at rs1 q) ≡ sh)
-    shapes1 q sh e = ⊎_elim
-        (λ (i : q ≡ r). (omega (arith, i, longer), ap (λ n. shape_of (record_at rs1 n)) i ∙ ap shape_of (record_new s.records a) ∙ some_same _ _ (sym (chosen q r (Some (shape_of a)) (w.shape q) i) ∙ e)))
-        (λ n. let o = h.records.shapes.by q sh (sym (passed q r (Some (shape_of a)) (w.shape q) n) ∙ e) in (omega (arith, o.0, longer), ap shape_of (record_kept s.records a q o.0) ∙ o.1))
-        (same_or_not q r)
-
     fixed1 : (q : ℕ) (x : Text) (u : Val) → w1.fixed q x ≡ Some u → (q < length rs1) × IsKept x × (value_in (record_at rs1 q) x ≡ Some u)
     fixed1 q x u e = ⊎_elim
         (λ (i : q ≡ r). let p = fixed x u (sym (chosen q r (values x) (w.fixed q x) i) ∙ e) in (omega (arith, i, longer), p.0, ap (λ n. value_in (record_at rs1 n) x) i ∙ ap (λ b. value_in b x) (record_new s.records a) ∙ p.1))
@@ -205,4 +223,4 @@ module _ {T : Scheme} {w : World} {st : State} {s : es.State} (h : Holds T w st 
 
     -- both sides are in the new frame
     pub entered_holds : Holds T w1 (changed (with_new_frame fr) st) (with_record s a)
-    entered_holds = record { calls = h.calls; input = h.input; objects = objects1; records = record { shapes = record { by = shapes1 }; fixed = fixed1; frames = frames1; apart = apart1; lists = λ o q n e. let b = h.records.lists o q n e in omega (arith, b, longer) } }
+    entered_holds = record { calls = h.calls; input = h.input; objects = objects1; records = record { shapes = entered_shapes h.records.shapes a (shape_of a) values k f refl; fixed = fixed1; frames = frames1; apart = apart1; lists = λ o q n e. let b = h.records.lists o q n e in omega (arith, b, longer) } }

@@ -12,3 +12,4 @@ pub mod Laters
 pub mod Bodies
 pub mod Finding
 pub mod Starting
+pub mod Methods

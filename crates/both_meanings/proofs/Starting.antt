@@ -21,10 +21,11 @@ use Rattle.es5_rules.specs.Steps.{Steps, Gives, Does}
 use Rattle.es5_rules.proofs.Steps.{steps_refl, steps_trans, steps_count, steps_from, steps_to, steps_look, steps_enter}
 use Rattle.es5_rules.proofs.Expressions.{gives_name, gives_this}
 use Rattle.es5_rules.proofs.Statements.{does_var}
-use Rattle.es5_rules.proofs.Records.{value_other}
+use Rattle.es5_rules.proofs.Records.{value_other, value_wrote}
 use Rattle.ruby_evaluation.specs.Tables.{Name}
 use Rattle.both_meanings.specs.Names.{local, self_name, IsKept}
 use Rattle.both_meanings.specs.World.{Shape, shape_of, stands, World}
+use Rattle.both_meanings.proofs.NamesDiffer.{kept_name}
 use Rattle.both_meanings.proofs.Records.{true_or_false, found_stands, same_names}
 
 -- ---- the record is entered
@@ -99,7 +100,7 @@ module _ (s : State) (ρ : Scope) (sh : Shape) (nil : Text) (o : ℕ) (at : ρ.i
   has a x e i = found_stands a.variables x ∙ ap (λ z. stands x z.names) e ∙ i
 
   -- one statement, and what stands behind it
-  begins_var : (x : Text) (e : EsExpr) (us : List EsStmt) (a : Activation) (v : Val) → shape_of a ≡ sh → stands x sh.names ≡ true → Gives e ρ (with_record s a) 1 v (with_record s a) [] → Steps (all (stmt.Var x (Some e) ∷ us) ρ >>= left) (with_record s a) 2 (all us ρ >>= left) (with_record s (with_variable a x v)) []
+  pub begins_var : (x : Text) (e : EsExpr) (us : List EsStmt) (a : Activation) (v : Val) → shape_of a ≡ sh → stands x sh.names ≡ true → Gives e ρ (with_record s a) 1 v (with_record s a) [] → Steps (all (stmt.Var x (Some e) ∷ us) ρ >>= left) (with_record s a) 2 (all us ρ >>= left) (with_record s (with_variable a x v)) []
   unfolding ◌>>=◌
   begins_var x e us a v i j g =
       steps_from (ap (λ t. t >>= left) (all_first (stmt.Var x (Some e)) us ρ))
@@ -134,3 +135,30 @@ module _ (s : State) (ρ : Scope) (sh : Shape) (nil : Text) (o : ℕ) (at : ρ.i
       or_right : (p q : Bool) → q ≡ true → (p || q) ≡ true
       or_right true q i = refl
       or_right false q i = i
+
+  -- where self and the locals have their first values
+  pub record Prepared (a : Activation) (ys : List Name) (ts us : List EsStmt) : Type 0 where
+    pub m : ℕ
+    pub some : 1 ≤ m
+    pub a1 : Activation
+    pub runs : Steps (all (ts ++ us) ρ >>= left) (with_record s a) m (all us ρ >>= left) (with_record s a1) []
+    pub shape : shape_of a1 ≡ sh
+    pub values : (y : Name) → stands y ys ≡ true → find_own a1.variables (local y) ≡ Some (Obj o)
+    pub self : value_in a1 self_name ≡ Some ρ.this
+    pub others : (x : Text) → ((y : Name) → local y ≡ x → ⊥) → (self_name ≡ x → ⊥) → value_in a1 x ≡ value_in a x
+
+  pub prepares : (ys : List Name) (ts us : List EsStmt) → Prelude nil ys ts → stands self_name sh.names ≡ true → ((y : Name) → stands y ys ≡ true → stands (local y) sh.names ≡ true) → (a : Activation) → shape_of a ≡ sh → Prepared a ys ts us
+  prepares _ _ us (prelude ys e0 ts named more) self there a e =
+      let b : Activation = with_variable a self_name ρ.this in
+      let shaped : shape_of b ≡ sh = shape_with a self_name ρ.this (has a self_name e self) ∙ e in
+      let rest = starts ys ts us more there b shaped in
+      record {
+        m = 2 + rest.m;
+        some = omega arith;
+        a1 = rest.a1;
+        runs = steps_trans (begins_var self_name e0 (ts ++ us) a ρ.this e self (gives_this e0 ρ (with_record s a) named)) rest.runs;
+        shape = rest.shape;
+        values = λ y i. rest.values y (inl i);
+        self = rest.others self_name (λ y i. (kept_name self_name _ refl).no_local y i) ∙ value_wrote a self_name ρ.this;
+        others = λ x n i. rest.others x n ∙ value_other a self_name x ρ.this i;
+      }
