@@ -12,4 +12,5 @@ pub mod Laters
 pub mod Bodies
 pub mod Finding
 pub mod Starting
+pub mod Functions
 pub mod Methods
