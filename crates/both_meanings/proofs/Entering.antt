@@ -9,11 +9,11 @@ use Rattle.es5_evaluation.specs.State.{Activation, record_at, value_in}
 use Rattle.es5_evaluation.specs.State as es
 use Rattle.es5_evaluation.specs.Task.{with_record}
 use Rattle.ruby_evaluation.specs.Tables.{Name, at}
-use Rattle.ruby_evaluation.specs.State.{Frame, Ruby, frame_at, with_new_frame, no_frame}
+use Rattle.ruby_evaluation.specs.State.{Method, Frame, Ruby, frame_at, with_new_frame, no_frame}
 use Rattle.ruby_evaluation.specs.Task.{State, changed}
-use Rattle.both_meanings.specs.Names.{local, module_name, IsKept}
+use Rattle.both_meanings.specs.Names.{local, home_name, module_name, IsKept}
 use Rattle.both_meanings.specs.Carries.{Heap}
-use Rattle.both_meanings.specs.World.{Shape, shape_of, Framed, Target, OfFrame, OfCall, Role, Token, Carrier, Listed, World, Grows, IsValue, bound_in, bound_around, Sees, SeesModule, SeesModules}
+use Rattle.both_meanings.specs.World.{Shape, shape_of, Framed, Target, OfFrame, OfCall, Role, Token, Carrier, Listed, World, Grows, IsValue, bound_in, bound_around, Sees, SeesModule, SeesModules, SeesHome}
 use Rattle.both_meanings.specs.Holds.{Scheme, Shapes, IsTarget, Serves, variable_at, FrameHolds, RecordsHold, ObjectsHold, IsProc, Holds}
 use Rattle.both_meanings.specs.Simulates.{Later}
 use Rattle.both_meanings.proofs.Growing.{value_grows, sees_grows, modules_grow, home_grows, frame_is_grows, is_entry_grows}
@@ -84,6 +84,10 @@ sees_around w r o sh x u e free out less i = record { at = i.at; binds = bound_a
 
 pub module_around : (w : World) (r o : ℕ) (sh : Shape) (x : Text) (k : ℕ) → w.shape r ≡ Some sh → bound_in sh x ≡ false → sh.outer ≡ Some o → o < r → SeesModule w o x k → SeesModule w r x k
 module_around w r o sh x k e free out less i = record { o = i.o; object = i.object; sees = sees_around w r o sh x (Obj i.o) e free out less i.sees }
+
+pub home_around : (w : World) (r o : ℕ) (sh : Shape) (m : Option Method) → w.shape r ≡ Some sh → bound_in sh home_name ≡ false → sh.outer ≡ Some o → o < r → SeesHome w o m → SeesHome w r m
+home_around w r o sh None e free out less i = tt
+home_around w r o sh (Some m) e free out less i = module_around w r o sh home_name m.owner e free out less i
 
 pub modules_around : (w : World) (r o : ℕ) (sh : Shape) (ks : List ℕ) → w.shape r ≡ Some sh → ((n : ℕ) → bound_in sh (module_name n) ≡ false) → sh.outer ≡ Some o → o < r → SeesModules w o ks → SeesModules w r ks
 modules_around w r o sh [] e free out less i = tt

@@ -14,3 +14,4 @@ pub mod Finding
 pub mod Starting
 pub mod Functions
 pub mod Methods
+pub mod Blocks
