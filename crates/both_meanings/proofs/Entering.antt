@@ -11,7 +11,7 @@ use Rattle.es5_evaluation.specs.Task.{with_record}
 use Rattle.ruby_evaluation.specs.Tables.{Name, at}
 use Rattle.ruby_evaluation.specs.State.{Method, Frame, Ruby, frame_at, with_new_frame, no_frame}
 use Rattle.ruby_evaluation.specs.Task.{State, changed}
-use Rattle.both_meanings.specs.Names.{local, home_name, module_name, IsKept}
+use Rattle.both_meanings.specs.Names.{local, home_name, module_name, IsFrameName}
 use Rattle.both_meanings.specs.Carries.{Heap}
 use Rattle.both_meanings.specs.World.{Shape, shape_of, Framed, Target, OfFrame, OfCall, Role, Token, Carrier, Listed, World, Grows, IsValue, bound_in, bound_around, Sees, SeesModule, SeesModules, SeesHome}
 use Rattle.both_meanings.specs.Holds.{Scheme, Shapes, IsTarget, Serves, variable_at, FrameHolds, RecordsHold, ObjectsHold, IsProc, Holds}
@@ -135,8 +135,8 @@ module _ {T : Scheme} {w : World} {st : State} {s : es.State} (h : Holds T w st 
     tokens = λ o t i e. e;
   }
 
-  module _ (fixed : (x : Text) (u : Val) → values x ≡ Some u → IsKept x × (value_in a x ≡ Some u)) (place : f.record_at ≡ r) (frame : FrameHolds w1 rs1 k f fr) where
-    fixed1 : (q : ℕ) (x : Text) (u : Val) → w1.fixed q x ≡ Some u → (q < length rs1) × IsKept x × (value_in (record_at rs1 q) x ≡ Some u)
+  module _ (fixed : (x : Text) (u : Val) → values x ≡ Some u → IsFrameName x × (value_in a x ≡ Some u)) (place : f.record_at ≡ r) (frame : FrameHolds w1 rs1 k f fr) where
+    fixed1 : (q : ℕ) (x : Text) (u : Val) → w1.fixed q x ≡ Some u → (q < length rs1) × IsFrameName x × (value_in (record_at rs1 q) x ≡ Some u)
     fixed1 q x u e = ⊎_elim
         (λ (i : q ≡ r). let p = fixed x u (sym (chosen q r (values x) (w.fixed q x) i) ∙ e) in (omega (arith, i, longer), p.0, ap (λ n. value_in (record_at rs1 n) x) i ∙ ap (λ b. value_in b x) (record_new s.records a) ∙ p.1))
         (λ n. let o = h.records.fixed q x u (sym (passed q r (values x) (w.fixed q x) n) ∙ e) in (omega (arith, o.0, longer), o.1, ap (λ b. value_in b x) (record_kept s.records a q o.0) ∙ o.2))

@@ -33,7 +33,7 @@ use Rattle.ruby_evaluation.specs.Task.{Return, Raise, Break, Next, Result, Val, 
 use Rattle.ruby_evaluation.specs.Task as ruby
 use Rattle.ruby_evaluation.specs.Requires.{Files}
 use Rattle.ruby_evaluation.specs.Run.{eval_to}
-use Rattle.both_meanings.specs.Names.{temp, local, module_name, self_name, block_name, home_name, IsKept}
+use Rattle.both_meanings.specs.Names.{temp, local, module_name, self_name, block_name, home_name, IsFrameName}
 use Rattle.both_meanings.specs.World.{Shape, shape_of, stands, bound_in, Function, Framed, Target, OfFrame, Token, Carrier, World, Grows, IsValue, is_nil, Var, Sees, SeesModule, SeesModules, FrameIs, Behind, SeesLocal, SeesHome, bound_here, bound_around}
 use Rattle.both_meanings.specs.Carries.{Carries, IsPlain, method_name, get_from}
 use Rattle.both_meanings.specs.Follows.{Follows}
@@ -41,7 +41,7 @@ use Rattle.both_meanings.specs.Holds.{Site, Scheme, FrameHolds, Holds}
 use Rattle.both_meanings.specs.Simulates.{Here, KeptAll, Later, Answers, a_value, a_raise, a_return, a_break, Called, Simulates}
 use Rattle.both_meanings.proofs.Bind.{follows_quiet, follows_outcome}
 use Rattle.both_meanings.proofs.Growing.{value_grows, sees_grows, modules_grow, module_grows, binds_grows}
-use Rattle.both_meanings.proofs.NamesDiffer.{kept_name, local_temp}
+use Rattle.both_meanings.proofs.NamesDiffer.{frame_name, local_temp, no_temp, no_local}
 use Rattle.both_meanings.proofs.Records.{true_or_false, bound_is}
 use Rattle.both_meanings.proofs.Holding.{NoToken}
 use Rattle.both_meanings.proofs.Entering.{chosen, passed, some_same, record_kept, frame_new, entered, entered_grows, entered_later, entered_holds, entered_shapes, sees_around, module_around, modules_around}
@@ -214,22 +214,22 @@ module _ {T : Scheme} {files : Files} {d : ℕ} (ih : Simulates T files d) {w : 
   unfolding activation
   first_there = ap (λ o. values.first o (λ z. find_own (own_name fn.code.name fo) is.first)) (first_of_names fn.code.params is.first pu (locals fn.code.params fn.code.body) is.params)
 
-  pub first_kept : IsKept is.first
-  first_kept = kept_name is.first is.tail is.first_is
+  pub first_frame : IsFrameName is.first
+  first_frame = frame_name is.first is.tail is.first_is
 
-  pub fixed_there : (y : Text) (z : values.Val) → of_call u is.first pu y ≡ Some z → IsKept y × (value_in ready.a1 y ≡ Some z)
+  pub fixed_there : (y : Text) (z : values.Val) → of_call u is.first pu y ≡ Some z → IsFrameName y × (value_in ready.a1 y ≡ Some z)
   fixed_there y z e = ⊎_elim
       (λ (i : bytes_eq y self_name ≡ true).
       let same : y ≡ self_name = (bytes_eq-Decides y self_name).0 i in
       let is_z : u ≡ z = some_same u z (sym (ap (λ c. if c then Some u else if bytes_eq y is.first then Some pu else None) i) ∙ e) in
-      (subst IsKept (sym same) (kept_name self_name _ refl), ap (value_in ready.a1) same ∙ ready.self ∙ ap Some is_z))
+      (subst IsFrameName (sym same) (frame_name self_name _ refl), ap (value_in ready.a1) same ∙ ready.self ∙ ap Some is_z))
       (λ (i : bytes_eq y self_name ≡ false).
       let more : (if bytes_eq y is.first then Some pu else None) ≡ Some z = sym (ap (λ c. if c then Some u else if bytes_eq y is.first then Some pu else None) i) ∙ e in
       ⊎_elim
       (λ (j : bytes_eq y is.first ≡ true).
       let same : y ≡ is.first = (bytes_eq-Decides y is.first).0 j in
       let is_z : pu ≡ z = some_same pu z (sym (ap (λ c. if c then Some pu else None) j) ∙ more) in
-      (subst IsKept (sym same) first_kept, ap (value_in ready.a1) same ∙ ready.others is.first (λ n q. first_kept.no_local n q) is.no_self ∙ first_there ∙ ap Some is_z))
+      (subst IsFrameName (sym same) first_frame, ap (value_in ready.a1) same ∙ ready.others is.first (λ n q. no_local first_frame n q) is.no_self ∙ first_there ∙ ap Some is_z))
       (λ (j : bytes_eq y is.first ≡ false). absurd (none_some z (sym (ap (λ c. if c then Some pu else None) j) ∙ more)))
       (true_or_false (bytes_eq y is.first)))
       (true_or_false (bytes_eq y self_name))

@@ -14,7 +14,7 @@ use Rattle.both_meanings.specs.Carries.{Heap, CarriesHeap}
 use Rattle.both_meanings.specs.World.{Framed, Target, OfFrame, OfCall, Role, Token, Carrier, Listed, World, Var}
 use Rattle.both_meanings.specs.Holds.{Scheme, IsTarget, Serves, value_of, variable_at, FrameHolds, RecordsHold, IsProc, ObjectsHold, Holds}
 use Rattle.both_meanings.specs.Simulates.{Kept}
-use Rattle.both_meanings.proofs.NamesDiffer.{temps_differ, local_temp}
+use Rattle.both_meanings.proofs.NamesDiffer.{temps_differ, local_temp, no_temp, no_local}
 use Rattle.both_meanings.proofs.Records.{wrote, var_within, same_or_not, shapes_wrote, length_wrote, value_other, value_elsewhere, in_other}
 
 -- ---- only the heap of Ruby's side counts for what carries it
@@ -59,7 +59,7 @@ records_temp w r s q n v h i = record {
       let f = h.fixed b x u e in (
         subst (λ m. b < m) (sym (length_wrote s q (temp n) v)) f.0,
         f.1,
-        in_other s q b (temp n) v x (var_within h.shapes q (temp n) i) (f.1.no_temp n) ∙ f.2,
+        in_other s q b (temp n) v x (var_within h.shapes q (temp n) i) (no_temp f.1 n) ∙ f.2,
       );
   frames = λ k f e.
       let g = h.frames k f e in (

@@ -12,6 +12,7 @@ pub mod Laters
 pub mod Bodies
 pub mod Finding
 pub mod Starting
+pub mod Alike
 pub mod Functions
 pub mod Methods
 pub mod Blocks

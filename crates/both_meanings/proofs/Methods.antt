@@ -32,7 +32,7 @@ use Rattle.ruby_evaluation.specs.Calls.{in_frame, method_frame, method_end, own_
 use Rattle.ruby_evaluation.specs.Task.{Return, Raise, Break, Next, Result, Val, Leaves, Jump, Place, Evaluate, Task, Look, Change, State, changed, walk, run_node}
 use Rattle.ruby_evaluation.specs.Requires.{Files}
 use Rattle.ruby_evaluation.specs.Run.{eval_to}
-use Rattle.both_meanings.specs.Names.{temp, local, module_name, self_name, block_name, home_name, IsKept}
+use Rattle.both_meanings.specs.Names.{temp, local, module_name, self_name, block_name, home_name, IsFrameName}
 use Rattle.both_meanings.specs.World.{Shape, shape_of, stands, bound_in, Function, Framed, Target, OfFrame, Token, Carrier, World, Grows, IsValue, is_nil, Var, Sees, SeesModule, SeesModules, FrameIs, own_local, bound_here, bound_around}
 use Rattle.both_meanings.specs.Carries.{Carries, IsPlain, method_name, get_from}
 use Rattle.both_meanings.specs.Follows.{Follows}
@@ -40,7 +40,7 @@ use Rattle.both_meanings.specs.Holds.{Site, Scheme, FrameHolds, Holds}
 use Rattle.both_meanings.specs.Simulates.{Here, KeptAll, Later, Answers, a_value, a_raise, a_return, a_break, Called, Simulates}
 use Rattle.both_meanings.proofs.Bind.{follows_quiet, follows_outcome}
 use Rattle.both_meanings.proofs.Growing.{value_grows, sees_grows, modules_grow, module_grows, binds_grows}
-use Rattle.both_meanings.proofs.NamesDiffer.{kept_name, local_temp}
+use Rattle.both_meanings.proofs.NamesDiffer.{frame_name, local_temp}
 use Rattle.both_meanings.proofs.Records.{true_or_false, bound_is}
 use Rattle.both_meanings.proofs.Holding.{NoToken}
 use Rattle.both_meanings.proofs.Entering.{chosen, passed, some_same, record_kept, frame_new, entered, entered_grows, entered_later, entered_holds, entered_shapes, sees_around, module_around, modules_around}

@@ -5,7 +5,7 @@ use Rattle.es5_tree.specs.Values.{Text}
 use Rattle.es5_tree.specs.Objects.Names.{decimal, number_of}
 use Rattle.es5_tree.proofs.ObjectProperties.{number_decimal}
 use Rattle.ruby_evaluation.specs.Tables.{Name}
-use Rattle.both_meanings.specs.Names.{temp, local, is_plain, hex, spelled, IsKept}
+use Rattle.both_meanings.specs.Names.{temp, local, is_plain, hex, spelled, IsFrameName}
 
 pub tail_same : (a b : ℕ) (x y : List ℕ) → a ∷ b ∷ x ≡ a ∷ b ∷ y → x ≡ y
 tail_same a b x y e = cc
@@ -20,8 +20,11 @@ pub local_temp : (x : Name) (n : ℕ) → local x ≡ temp n → ⊥
 local_temp x n e = let f : 108 ≡ 116 = head_same 108 116 _ _ e in absurd (omega (arith, f))
 
 -- a name that begins with "$"
-pub kept_name : (x y : Text) → x ≡ 36 ∷ y → IsKept x
-kept_name x y e = record {
-  no_temp = λ n i. let f : 116 ≡ 36 = head_same 116 36 _ _ (i ∙ e) in absurd (omega (arith, f));
-  no_local = λ z i. let f : 108 ≡ 36 = head_same 108 36 _ _ (i ∙ e) in absurd (omega (arith, f));
-}
+pub frame_name : (x y : Text) → x ≡ 36 ∷ y → IsFrameName x
+frame_name x y e = record { tail = y; is = e }
+
+pub no_temp : {x : Text} → IsFrameName x → (n : ℕ) → temp n ≡ x → ⊥
+no_temp f n i = let e : 116 ≡ 36 = head_same 116 36 _ _ (i ∙ f.is) in absurd (omega (arith, e))
+
+pub no_local : {x : Text} → IsFrameName x → (y : Name) → local y ≡ x → ⊥
+no_local f y i = let e : 108 ≡ 36 = head_same 108 36 _ _ (i ∙ f.is) in absurd (omega (arith, e))

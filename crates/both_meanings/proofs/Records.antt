@@ -8,7 +8,7 @@ use Rattle.es5_tree.proofs.ObjectProperties.{find_written, find_other}
 use Rattle.es5_evaluation.specs.State.{Activation, State, record_at, binds, binding, binding_by, has_variable, value_in, with_variable}
 use Rattle.es5_evaluation.specs.Task.{with_stored, with_record}
 use Rattle.both_meanings.specs.World.{Shape, shape_of, stands, bound_in, World, Binds, bound_here, bound_around, Var, Sees}
-use Rattle.both_meanings.specs.Names.{IsKept}
+use Rattle.both_meanings.specs.Names.{IsFrameName}
 use Rattle.both_meanings.specs.Holds.{Shapes, value_of}
 
 pub true_or_false : (a : Bool) → (a ≡ true) ⊎ (a ≡ false)

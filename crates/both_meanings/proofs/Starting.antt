@@ -23,9 +23,9 @@ use Rattle.es5_rules.proofs.Expressions.{gives_name, gives_this}
 use Rattle.es5_rules.proofs.Statements.{does_var}
 use Rattle.es5_rules.proofs.Records.{value_other, value_wrote}
 use Rattle.ruby_evaluation.specs.Tables.{Name}
-use Rattle.both_meanings.specs.Names.{local, self_name, IsKept}
+use Rattle.both_meanings.specs.Names.{local, self_name, IsFrameName}
 use Rattle.both_meanings.specs.World.{Shape, shape_of, stands, World}
-use Rattle.both_meanings.proofs.NamesDiffer.{kept_name}
+use Rattle.both_meanings.proofs.NamesDiffer.{frame_name, no_temp, no_local}
 use Rattle.both_meanings.proofs.Records.{true_or_false, found_stands, same_names}
 
 -- ---- the record is entered
@@ -159,6 +159,6 @@ module _ (s : State) (ρ : Scope) (sh : Shape) (nil : Text) (o : ℕ) (at : ρ.i
         runs = steps_trans (begins_var self_name e0 (ts ++ us) a ρ.this e self (gives_this e0 ρ (with_record s a) named)) rest.runs;
         shape = rest.shape;
         values = λ y i. rest.values y (inl i);
-        self = rest.others self_name (λ y i. (kept_name self_name _ refl).no_local y i) ∙ value_wrote a self_name ρ.this;
+        self = rest.others self_name (λ y i. no_local (frame_name self_name _ refl) y i) ∙ value_wrote a self_name ρ.this;
         others = λ x n i. rest.others x n ∙ value_other a self_name x ρ.this i;
       }

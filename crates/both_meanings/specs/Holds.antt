@@ -14,7 +14,7 @@ use Rattle.ruby_evaluation.specs.Tables.{Name, at}
 use Rattle.ruby_evaluation.specs.State.{Entry, Closure, Block, Frame, Ruby, thing_at, frame_at, is_call_open}
 use Rattle.ruby_evaluation.specs.Ancestors.{entry_at}
 use Rattle.ruby_evaluation.specs.Task.{State, Request}
-use Rattle.both_meanings.specs.Names.{local, IsKept, self_name, block_name}
+use Rattle.both_meanings.specs.Names.{local, IsFrameName, self_name, block_name}
 use Rattle.both_meanings.specs.World.{Shape, shape_of, stands, Function, Framed, Target, OfFrame, OfCall, Role, Token, Carrier, Listed, World, Grows, IsValue, Sees, SeesModules, SeesHome, FrameIs}
 use Rattle.both_meanings.specs.Carries.{Heap, CarriesHeap, IsPlain, method_name, mod_of, own_of, id_of}
 use Rattle.both_meanings.specs.Follows.{calls_of}
@@ -69,7 +69,7 @@ pub record FrameHolds (w : World) (rs : List Activation) (k : ℕ) (f : Framed) 
 
 pub record RecordsHold (w : World) (r : Ruby) (rs : List Activation) : Type 0 where
   pub shapes : Shapes w rs
-  pub fixed : (q : ℕ) (x : Text) (u : Val) → w.fixed q x ≡ Some u → (q < length rs) × IsKept x × (value_in (record_at rs q) x ≡ Some u)
+  pub fixed : (q : ℕ) (x : Text) (u : Val) → w.fixed q x ≡ Some u → (q < length rs) × IsFrameName x × (value_in (record_at rs q) x ≡ Some u)
   pub frames : (k : ℕ) (f : Framed) → w.frame k ≡ Some f → (k < length r.frames) × FrameHolds w rs k f (frame_at r k)
   pub apart : (j k : ℕ) (f g : Framed) → w.frame j ≡ Some f → w.frame k ≡ Some g → f.record_at ≡ g.record_at → j ≡ k
   pub lists : (o q n : ℕ) → w.role o ≡ Some (Listed q n) → q < length rs

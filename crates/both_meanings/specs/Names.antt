@@ -1,4 +1,4 @@
--- The names that scripts generate: temporaries by number, locals by name, and those of frames, which begin with "$".
+-- The names that scripts generate: temporaries by number, locals by name, and those of frames and of the runtime, which begin with "$".
 use Rattle.std.specs.Prelude.{◌≡◌, ℕ, ◌+◌, ◌/◌, ◌%◌, ◌||◌, ◌&&◌, Bool, if◌then◌else◌, nat_lt, nat_le, nat_eq, [], ◌∷◌, ◌++◌, codes}
 use Rattle.std.specs.List.{flat_map}
 use Rattle.es5_tree.specs.Values.{Text}
@@ -22,12 +22,11 @@ spelled u = if is_plain u then u ∷ [] else 36 ∷ hex (u / 4096) ∷ hex (u / 
 abbrev pub local : Name → Text
 local x = codes "l$" ++ flat_map spelled x
 
--- no temporary and no local
-pub record IsKept (x : Text) : Type 0 where
-  pub no_temp : (n : ℕ) → temp n ≡ x → ⊥
-  pub no_local : (y : Name) → local y ≡ x → ⊥
+-- ---- names of frames and of the runtime
 
--- ---- names of frames
+pub record IsFrameName (x : Text) : Type 0 where
+  pub tail : Text
+  pub is : x ≡ 36 ∷ tail
 
 abbrev pub self_name : Text
 self_name = codes "$$self"
