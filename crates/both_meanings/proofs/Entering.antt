@@ -197,7 +197,7 @@ module _ {T : Scheme} {w : World} {st : State} {s : es.State} (h : Holds T w st 
         (same_or_not i k)
 
     serves1 : (o : ℕ) (x : Role) → Serves st.ruby s.heap o x → Serves R1 s.heap o x
-    serves1 o (Token (OfFrame j)) i = (omega (arith, i.0, more_frames), i.1 ∙ ap (λ y. Some (Truth y.is_open)) (sym (frame_kept st.ruby fr j i.0)))
+    serves1 o (Token (OfFrame j)) i = (omega (arith, i.0, more_frames), i.1, i.2 ∙ ap (λ y. Some (Truth y.is_open)) (sym (frame_kept st.ruby fr j i.0)))
     serves1 o (Token (OfCall n)) i = i
     serves1 o (Carrier p u) i = i
     serves1 o (Listed q n) i = i

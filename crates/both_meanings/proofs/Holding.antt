@@ -151,7 +151,7 @@ holds_closed T w st s k l none h = record {
     same = closed_frames st.ruby k
 
     served : (p : ℕ) (x : Role) → w.role p ≡ Some x → Serves st.ruby s.heap p x → Serves (closed k st.ruby) s.heap p x
-    served p (Token (OfFrame j)) e i = (subst (λ n. j < n) (sym same) i.0, i.1 ∙ ap (λ y. Some (Truth y.is_open)) (sym (closed_other st.ruby k j (λ q. none p (e ∙ ap (λ n. Some (Token (OfFrame n))) q)))))
+    served p (Token (OfFrame j)) e i = (subst (λ n. j < n) (sym same) i.0, i.1, i.2 ∙ ap (λ y. Some (Truth y.is_open)) (sym (closed_other st.ruby k j (λ q. none p (e ∙ ap (λ n. Some (Token (OfFrame n))) q)))))
     served p (Token (OfCall n)) e i = i
     served p (Carrier q u) e i = i
     served p (Listed q n) e i = i

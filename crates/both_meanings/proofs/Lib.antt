@@ -13,6 +13,7 @@ pub mod Bodies
 pub mod Finding
 pub mod Starting
 pub mod Alike
+pub mod Quiet
 pub mod Functions
 pub mod Methods
 pub mod Blocks

@@ -94,9 +94,9 @@ abbrev pub IsTarget : Ruby → Target → Type 0
 IsTarget r (OfFrame k) = k < length r.frames
 IsTarget r (OfCall n) = n < length r.calls
 
--- A token is marked open while its target is; a carrier has its token and its value. What a list holds is known to who makes it.
+-- A token is a plain object that is marked open while its target is; a carrier has its token and its value. What a list holds is known to who makes it.
 abbrev pub Serves : Ruby → Heap → ℕ → Role → Type 0
-Serves r h o (Token t) = IsTarget r t × (own_of h o open_name ≡ Some (Truth (is_open r t)))
+Serves r h o (Token t) = IsTarget r t × ((cell_at h o).kind ≡ cell.Object) × (own_of h o open_name ≡ Some (Truth (is_open r t)))
 Serves r h o (Carrier p u) = (own_of h o token_name ≡ Some (Obj p)) × (own_of h o value_name ≡ Some u)
 Serves r h o _ = ⊤
 
