@@ -14,6 +14,7 @@ pub mod Finding
 pub mod Starting
 pub mod Alike
 pub mod Quiet
+pub mod Tokens
 pub mod Functions
 pub mod Methods
 pub mod Blocks

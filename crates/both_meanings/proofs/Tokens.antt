@@ -1,0 +1,117 @@
+-- The token of a call is closed on both sides.
+use Rattle.std.proofs.Common.{◌≡◌, ◌⊎◌, inl, inr, ⊎_elim, ℕ, zero, suc, ◌+◌, ◌<◌, Bool, true, false, List, [], ◌∷◌, ◌++◌, length, map, Option, Some, None, refl, sym, ap, ◌∙◌, subst, arith, codes}
+use Rattle.std.specs.Prelude.{bytes_eq, ◌==◌}
+use Rattle.std.specs.Int.Digits.{digits_of}
+use Rattle.std.proofs.lemmas.Bool.{eq-eqb}
+use Rattle.std.proofs.lemmas.Slice.Eq.{bytes_eq-Decides}
+use Rattle.std.proofs.lemmas.List.{length-set, get_or-set_same, get_or-set_other}
+use Rattle.es5_tree.specs.Values.{Text, Val, Truth, Obj, find_own}
+use Rattle.es5_tree.specs.Objects.Names.{decimal}
+use Rattle.es5_tree.specs.Objects.Cells.{Cell, put, with_value, with_property, own, is_array_length}
+use Rattle.es5_tree.specs.Objects.Cells as cell
+use Rattle.es5_tree.specs.Objects.Links.{cell_at, set_cell}
+use Rattle.es5_tree.proofs.ObjectProperties.{find_written, find_other}
+use Rattle.es5_evaluation.specs.State as es
+use Rattle.es5_evaluation.specs.Task.{with_object}
+use Rattle.ruby_evaluation.specs.Tables.{Name}
+use Rattle.ruby_evaluation.specs.State.{Ruby, call_closed, is_call_open}
+use Rattle.ruby_evaluation.specs.Task.{State, changed}
+use Rattle.both_meanings.specs.Names.{self_name}
+use Rattle.both_meanings.specs.Carries.{Heap, id_name, mod_name, stub_name, method_name, IsPlain, IsVariable, own_of}
+use Rattle.both_meanings.specs.World.{Function, Target, OfFrame, OfCall, Role, Token, Carrier, Listed, World}
+use Rattle.both_meanings.specs.Holds.{Scheme, open_name, token_name, value_name, Serves, IsFunction, IsProc, ObjectsHold, Holds}
+use Rattle.both_meanings.proofs.Records.{same_or_not}
+use Rattle.both_meanings.proofs.Holding.{carries_same}
+use Rattle.both_meanings.proofs.Quiet.{IsPrivate, SameBut, own_same, id_same, mod_same, carries_but}
+
+-- ---- names
+
+pub names_apart : (a b : Text) → bytes_eq a b ≡ false → a ≡ b → ⊥
+names_apart a b e i = let d : bytes_eq a b ≡ true = (bytes_eq-Decides a b).1 i in absurd (true_false (sym d ∙ e))
+  where
+    true_false : true ≡ false → ⊥
+    true_false q = cc
+
+head_is : (a b : ℕ) (x y : List ℕ) → a ∷ x ≡ b ∷ y → a ≡ b
+head_is a b x y e = cc
+
+no_item : (a : ℕ) (x : List ℕ) → a ∷ x ≡ [] → ⊥
+no_item a x e = cc
+
+second_is : (a b c : ℕ) (x y : List ℕ) → a ∷ b ∷ x ≡ a ∷ c ∷ y → b ≡ c
+second_is a b c x y e = cc
+
+second_none : (a b : ℕ) (x : List ℕ) → a ∷ b ∷ x ≡ a ∷ [] → ⊥
+second_none a b x e = cc
+
+-- a name that begins with "$$" is none of a method, and one that begins with "$" is none of a variable or an index
+pub no_method : (x : Text) (m : Name) → IsPlain m → 36 ∷ 36 ∷ x ≡ method_name m → ⊥
+no_method x [] p e = second_none 36 36 x e
+no_method x (u ∷ us) p e = absurd (false_true (sym p ∙ eq-eqb u 36 (sym (second_is 36 36 u x us e))))
+  where
+    false_true : false ≡ true → ⊥
+    false_true q = cc
+
+pub no_variable : (x : Text) (y : Name) → IsVariable y → 36 ∷ x ≡ y → ⊥
+no_variable x [] v e = absurd v
+no_variable x (u ∷ us) v e = let i : 36 ≡ u = head_is 36 u x us e in absurd (omega (arith, i, v))
+
+pub no_index : (x : Text) (i : ℕ) → 36 ∷ x ≡ decimal i → ⊥
+unfolding decimal
+no_index x zero e = let i : 36 ≡ 48 = head_is 36 48 x [] e in absurd (omega (arith, i))
+no_index x (suc n) e = digits (digits_of 10 (suc n)) e
+  where
+    digits : (ds : List ℕ) → 36 ∷ x ≡ map (λ d. 48 + d) ds → ⊥
+    digits [] q = no_item 36 x q
+    digits (d ∷ ds) q = let i : 36 ≡ 48 + d = head_is 36 (48 + d) x _ q in absurd (omega (arith, i))
+
+open_private : IsPrivate open_name
+open_private = record {
+  id = names_apart open_name id_name refl;
+  modules = names_apart open_name mod_name refl;
+  stub = names_apart open_name stub_name refl;
+  method = λ m p e. no_method (codes "open") m p e;
+  variable = λ x v e. no_variable (codes "$open") x v e;
+  index = λ i e. no_index (codes "$open") i e;
+}
+
+-- ---- a property of a plain object is written
+
+put_plain : (c : Cell) (y : Text) (v : Val) → c.kind ≡ cell.Object → put c y v ≡ record { kind = c.kind; link = c.link; array_length = c.array_length; properties = with_property c.properties y v }
+unfolding put with_value
+put_plain c y v e = rw e refl
+
+pub cell_written : (h : Heap) (o : ℕ) (c : Cell) → o < length h → cell_at (set_cell h o c) o ≡ c
+unfolding cell_at
+cell_written h o c l = get_or-set_same h o c _ l
+
+pub cell_other : (h : Heap) (o p : ℕ) (c : Cell) → (p ≡ o → ⊥) → cell_at (set_cell h o c) p ≡ cell_at h p
+unfolding cell_at
+cell_other h o p c n = get_or-set_other h o p c _ n
+
+module _ (h : Heap) (o : ℕ) (y : Text) (v : Val) (l : o < length h) (plain : (cell_at h o).kind ≡ cell.Object) where
+  abbrev pub h1 : Heap
+  h1 = set_cell h o (put (cell_at h o) y v)
+
+  here : cell_at h1 o ≡ record { kind = (cell_at h o).kind; link = (cell_at h o).link; array_length = (cell_at h o).array_length; properties = with_property (cell_at h o).properties y v }
+  here = cell_written h o (put (cell_at h o) y v) l ∙ put_plain (cell_at h o) y v plain
+
+  -- what a cell has is the same where it is the same in the one that was written
+  as_before : {X : Type 0} (f : Cell → X) (p : ℕ) → f (record { kind = (cell_at h o).kind; link = (cell_at h o).link; array_length = (cell_at h o).array_length; properties = with_property (cell_at h o).properties y v }) ≡ f (cell_at h o) → f (cell_at h1 p) ≡ f (cell_at h p)
+  as_before f p e = ⊎_elim
+      (λ (i : p ≡ o). subst (λ q. f (cell_at h1 q) ≡ f (cell_at h q)) (sym i) (ap f here ∙ e))
+      (λ n. ap f (cell_other h o p (put (cell_at h o) y v) n))
+      (same_or_not p o)
+
+  pub same_but : SameBut y h h1
+  same_but = record {
+    size = length-set h o _;
+    kind = λ p. as_before (λ c. c.kind) p refl;
+    link = λ p. as_before (λ c. c.link) p refl;
+    array_length = λ p. as_before (λ c. c.array_length) p refl;
+    found = λ p x n. as_before (λ c. find_own c.properties x) p (find_other (cell_at h o).properties y x v n);
+  }
+
+  pub now : own_of h1 o y ≡ Some v
+  unfolding own
+  now = ap (λ c. own c y) here ∙ rw plain (find_written (cell_at h o).properties y v)
