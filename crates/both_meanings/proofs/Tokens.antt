@@ -115,3 +115,91 @@ module _ (h : Heap) (o : ℕ) (y : Text) (v : Val) (l : o < length h) (plain : (
   pub now : own_of h1 o y ≡ Some v
   unfolding own
   now = ap (λ c. own c y) here ∙ rw plain (find_written (cell_at h o).properties y v)
+
+-- ---- the call is over, and its token is marked so
+
+module _ {T : Scheme} {w : World} {st : State} {s : es.State} (h : Holds T w st s) (n o : ℕ) (is : w.role o ≡ Some (Token (OfCall n))) where
+  abbrev token : Serves st.ruby s.heap o (Token (OfCall n))
+  token = (h.objects.roles o (Token (OfCall n)) is).1
+
+  inside : o < length s.heap
+  inside = (h.objects.roles o (Token (OfCall n)) is).0
+
+  abbrev h2 : Heap
+  h2 = set_cell s.heap o (put (cell_at s.heap o) open_name (Truth false))
+
+  abbrev R2 : Ruby
+  R2 = call_closed n st.ruby
+
+  same : SameBut open_name s.heap h2
+  same = same_but s.heap o open_name (Truth false) inside token.1
+
+  closed_now : is_call_open R2 n ≡ false
+  closed_now = get_or-set_same st.ruby.calls n false false token.0
+
+  closed_else : (m : ℕ) → (m ≡ n → ⊥) → is_call_open R2 m ≡ is_call_open st.ruby m
+  closed_else m i = get_or-set_other st.ruby.calls n m false false i
+
+  other_object : (p : ℕ) (t : Target) → w.role p ≡ Some (Token t) → (t ≡ OfCall n → ⊥) → p ≡ o → ⊥
+  other_object p t e d i = d (role_is t (OfCall n) (sym e ∙ ap w.role i ∙ is))
+    where
+      role_is : (t q : Target) → Some (Token t) ≡ Some (Token q) → t ≡ q
+      role_is t q e = cc
+
+  call_is : (m n : ℕ) → OfCall m ≡ OfCall n → m ≡ n
+  call_is m n e = cc
+
+  frame_no_call : (k n : ℕ) → OfFrame k ≡ OfCall n → ⊥
+  frame_no_call k n e = cc
+
+  kept : (p : ℕ) → (p ≡ o → ⊥) → (x : Text) → own_of h2 p x ≡ own_of s.heap p x
+  kept p i x = ap (λ c. own c x) (cell_other s.heap o p (put (cell_at s.heap o) open_name (Truth false)) i)
+
+  kinds : (p : ℕ) → (cell_at h2 p).kind ≡ (cell_at s.heap p).kind
+  kinds p = same.kind p
+
+  served : (p : ℕ) (x : Role) → w.role p ≡ Some x → Serves st.ruby s.heap p x → Serves R2 h2 p x
+  served p (Token (OfFrame k)) e i = (i.0, kinds p ∙ i.1, kept p (other_object p (OfFrame k) e (frame_no_call k n)) open_name ∙ i.2)
+  served p (Token (OfCall m)) e i = ⊎_elim
+      (λ (q : m ≡ n).
+      let at : p ≡ o = h.objects.single p o (OfCall n) (e ∙ ap (λ a. Some (Token (OfCall a))) q) is in (
+        subst (λ a. m < a) (sym (length-set st.ruby.calls n false)) i.0,
+        kinds p ∙ i.1,
+        ap (λ a. own_of h2 a open_name) at ∙ now s.heap o open_name (Truth false) inside token.1 ∙ ap (λ b. Some (Truth b)) (sym closed_now ∙ ap (is_call_open R2) (sym q)),
+      ))
+      (λ d. (
+        subst (λ a. m < a) (sym (length-set st.ruby.calls n false)) i.0,
+        kinds p ∙ i.1,
+        kept p (other_object p (OfCall m) e (λ q. d (call_is m n q))) open_name ∙ i.2 ∙ ap (λ b. Some (Truth b)) (sym (closed_else m d)),
+      ))
+      (same_or_not m n)
+  served p (Carrier q u) e i = (own_same same p token_name (names_apart open_name token_name refl) ∙ i.0, own_same same p value_name (names_apart open_name value_name refl) ∙ i.1)
+  served p (Listed q m) e i = i
+
+  pub holds_call_closed : Holds T w (changed (call_closed n) st) (with_object s o (put (cell_at s.heap o) open_name (Truth false)))
+  holds_call_closed = record {
+    calls = h.calls;
+    input = h.input;
+    records = record { shapes = h.records.shapes; fixed = h.records.fixed; frames = h.records.frames; apart = h.records.apart; lists = h.records.lists };
+    objects =
+        let a = h.objects in
+        record {
+          carries = carries_same T.called st.ruby R2 h2 refl (carries_but same open_private T.called st.ruby a.carries);
+          objects = λ k p e. id_same same open_private p ∙ a.objects k p e;
+          numbers = λ p k e. a.numbers p k (sym (id_same same open_private p) ∙ e);
+          functions = λ p f e.
+              let i = a.functions p f e in (
+                subst (λ m. p < m) (sym same.size) i.0,
+                record { at = i.1.at; kind = kinds p ∙ i.1.kind; there = i.1.there; code = i.1.code },
+              );
+          entries = λ M m e l p i j k q. a.entries M m e l p i j (sym (mod_same same open_private l) ∙ k) (sym (own_same same l (method_name m) (λ z. no_method (codes "open") m i z)) ∙ q);
+          procs = λ k p c e i.
+              let b = a.procs k p c e i in
+              let q = b.1 in (
+                b.0,
+                record { function = q.function; is = q.is; text = q.text; self = q.self; self_is = own_same same p self_name (names_apart open_name self_name refl) ∙ q.self_is; self_value = q.self_value },
+              );
+          roles = λ p x e. let i = a.roles p x e in (subst (λ m. p < m) (sym same.size) i.0, served p x e i.1);
+          single = a.single;
+        };
+  }
