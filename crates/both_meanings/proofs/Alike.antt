@@ -8,18 +8,12 @@ use Rattle.es5_evaluation.specs.Task.{with_record}
 use Rattle.ruby_evaluation.specs.Tables.{Name}
 use Rattle.ruby_evaluation.specs.State.{Ruby}
 use Rattle.ruby_evaluation.specs.Task.{State}
-use Rattle.both_meanings.specs.Names.{temp, local, IsFrameName}
+use Rattle.both_meanings.specs.Names.{local, IsFrameName, Generated, is_local, is_frame}
 use Rattle.both_meanings.specs.World.{shape_of, World}
 use Rattle.both_meanings.specs.Holds.{Scheme, variable_at, RecordsHold, Holds}
 use Rattle.both_meanings.specs.Simulates.{KeptAll}
 use Rattle.both_meanings.proofs.Records.{wrote, length_wrote, record_wrote, record_other, value_other, same_or_not}
 use Rattle.both_meanings.proofs.Entering.{record_kept}
-
--- a name that a translation generates
-pub data Generated : Text → Type 0 where
-  is_temp : (n : ℕ) → Generated (temp n)
-  is_local : (y : Name) → Generated (local y)
-  is_frame : (y : Text) → Generated (36 ∷ y)
 
 -- The records that were there have their shapes, and generated names in them their values.
 pub record Alike (rs rs1 : List Activation) : Type 0 where

@@ -30,13 +30,13 @@ use Rattle.both_meanings.specs.World.{Target, OfFrame, OfCall, Token, Carrier, L
 use Rattle.both_meanings.specs.Carries.{Carries}
 use Rattle.both_meanings.specs.Follows.{Post, Follows}
 use Rattle.both_meanings.specs.Holds.{Site, Scheme, value_of, Holds}
-use Rattle.both_meanings.specs.Simulates.{Here, Kept, KeptAll, Later, Answers, a_value, a_raise, a_return, a_break, Matches, m_value, m_thrown, m_break, m_continue, m_next, m_return, Good, Called, Below, Simulates}
+use Rattle.both_meanings.specs.Simulates.{Here, RecordsStay, Kept, KeptAll, Later, Answers, a_value, a_raise, a_return, a_break, Matches, m_value, m_thrown, m_break, m_continue, m_next, m_return, Good, Called, Below, Simulates}
 use Rattle.both_meanings.proofs.Meeting.{met_none}
 use Rattle.both_meanings.proofs.Bind.{after, follows_end, follows_task, follows_then}
 use Rattle.both_meanings.proofs.Growing.{var_grows}
 use Rattle.both_meanings.proofs.Records.{bound_is, var_binds}
 use Rattle.both_meanings.proofs.Holding.{NoToken, holds_closed, closed_other, closed_frames}
-use Rattle.both_meanings.proofs.Laters.{later_ruby, later_trans}
+use Rattle.both_meanings.proofs.Laters.{later_ruby, later_trans, stay_trans}
 
 none_some : {A : Type 0} (x : A) → None ≡ Some x → ⊥
 none_some x e = cc
@@ -54,7 +54,7 @@ pub record Began (w : World) (before : State) (s : es.State) (w1 : World) (st : 
   pub fresh : length before.ruby.frames ≤ k
   pub there : k < length st.ruby.frames
   pub kept : KeptAll w s z
-  pub more : length s.records ≤ length z.records
+  pub stay : RecordsStay s.records z.records
   pub beyond : length s.records ≤ r
   pub none : NoToken w1 k
 
@@ -85,9 +85,9 @@ module _ {T : Scheme} {files : Files} {d : ℕ} (ih : Simulates T files d) (a : 
         record {
           w1 = g.w1;
           holds = holds_closed T g.w1 st z p.frame there none g.holds;
-          more = omega (arith, b.more, g.more);
+          stay = stay_trans b.stay g.stay;
           kept = record {
-            temps = λ q n l. g.kept.temps q n (omega (arith, l, b.more)) (inl (λ e. let y = b.beyond in absurd (omega (arith, l, y, e)))) ∙ b.kept.temps q n l;
+            temps = λ q n l. g.kept.temps q n (omega (arith, l, b.stay.more)) (inl (λ e. let y = b.beyond in absurd (omega (arith, l, y, e)))) ∙ b.kept.temps q n l;
             lists = λ o q n e.
                 let i = h.records.lists o q n e in
                 g.kept.lists o q n (b.later.grows.role o (Listed q n) e) (inl (λ j. let y = b.beyond in absurd (omega (arith, i, y, j)))) ∙ b.kept.lists o q n e;

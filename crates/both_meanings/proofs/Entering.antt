@@ -222,6 +222,7 @@ module _ {T : Scheme} {w : World} {st : State} {s : es.State} (h : Holds T w st 
                 },
               );
           roles = λ o x e. let z = ob.roles o x e in (z.0, serves1 o x z.1);
+          clean = ob.clean;
           single = ob.single;
         }
 

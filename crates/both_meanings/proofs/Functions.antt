@@ -343,7 +343,11 @@ module _ {T : Scheme} {files : Files} {d : ℕ} (ih : Simulates T files d) {w : 
     fresh = omega arith;
     there = let n = length-append st.ruby.frames (fr ∷ []) in omega (arith, n);
     kept = record { temps = λ q n l. ap (λ c. find_own c.variables (temp n)) (record_kept s.records a1 q l); lists = λ o q n e. refl };
-    more = let n = length-append s.records (a1 ∷ []) in omega (arith, n);
+    stay = record {
+      more = let n = length-append s.records (a1 ∷ []) in omega (arith, n);
+      shape = λ q l. ap shape_of (record_kept s.records a1 q l);
+      plain = λ q x l n. ap (λ c. find_own c.variables x) (record_kept s.records a1 q l);
+    };
     beyond = omega arith;
     none = λ o e. let i = (h.objects.roles o (Token (OfFrame k)) e).1.0 in absurd (omega (arith, i));
   }

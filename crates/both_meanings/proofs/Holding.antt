@@ -129,6 +129,7 @@ holds_closed T w st s k l none h = record {
           by_frame (λ fr. IsProc T w fr.me s.heap c p) st.ruby k c.frame l a.1 (λ x. x),
         );
     roles = λ p x e. let a = o.roles p x e in (a.0, served p x e a.1);
+    clean = o.clean;
     single = o.single;
   };
   records = record {

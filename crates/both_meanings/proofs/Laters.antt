@@ -1,10 +1,11 @@
 -- What parts of a run leave, one after the other.
-use Rattle.std.proofs.Common.{◌≡◌, ℕ, ◌<◌, ◌≤◌, length, Some, refl, sym, ap, ◌∙◌, arith}
+use Rattle.std.proofs.Common.{◌≡◌, ℕ, ◌<◌, ◌≤◌, length, Some, refl, sym, ap, ◌∙◌, arith, List}
+use Rattle.es5_evaluation.specs.State.{Activation}
 use Rattle.es5_evaluation.specs.State as es
 use Rattle.ruby_evaluation.specs.State.{Ruby, frame_at}
 use Rattle.both_meanings.specs.World.{Target, OfFrame, OfCall, Token, Listed, World}
 use Rattle.both_meanings.specs.Holds.{IsTarget}
-use Rattle.both_meanings.specs.Simulates.{Kept, KeptAll, Later}
+use Rattle.both_meanings.specs.Simulates.{RecordsStay, Kept, KeptAll, Later}
 use Rattle.both_meanings.proofs.Growing.{grows_refl, grows_trans}
 
 pub later_refl : (w : World) (r : Ruby) → Later w r w r
@@ -39,4 +40,14 @@ pub kept_all_trans : {w w1 : World} {s y z : es.State} → KeptAll w s y → Kep
 kept_all_trans a b l g = record {
   temps = λ q n i. b.temps q n (omega (arith, i, l)) ∙ a.temps q n i;
   lists = λ o q n e. b.lists o q n (g o q n e) ∙ a.lists o q n e;
+}
+
+pub stay_refl : (rs : List Activation) → RecordsStay rs rs
+stay_refl rs = record { more = omega arith; shape = λ q l. refl; plain = λ q x l n. refl }
+
+pub stay_trans : {rs rs1 rs2 : List Activation} → RecordsStay rs rs1 → RecordsStay rs1 rs2 → RecordsStay rs rs2
+stay_trans a b = record {
+  more = omega (arith, a.more, b.more);
+  shape = λ q l. b.shape q (omega (arith, l, a.more)) ∙ a.shape q l;
+  plain = λ q x l n. b.plain q x (omega (arith, l, a.more)) n ∙ a.plain q x l n;
 }

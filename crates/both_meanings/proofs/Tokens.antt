@@ -22,7 +22,7 @@ use Rattle.both_meanings.specs.World.{Function, Target, OfFrame, OfCall, Role, T
 use Rattle.both_meanings.specs.Holds.{Scheme, open_name, token_name, value_name, Serves, IsFunction, IsProc, ObjectsHold, Holds}
 use Rattle.both_meanings.proofs.Records.{same_or_not}
 use Rattle.both_meanings.proofs.Holding.{carries_same}
-use Rattle.both_meanings.proofs.Quiet.{IsPrivate, SameBut, own_same, id_same, mod_same, carries_but}
+use Rattle.both_meanings.proofs.Quiet.{IsPrivate, SameBut, own_same, get_same, id_same, mod_same, carries_but}
 
 -- ---- names
 
@@ -200,6 +200,7 @@ module _ {T : Scheme} {w : World} {st : State} {s : es.State} (h : Holds T w st 
                 record { function = q.function; is = q.is; text = q.text; self = q.self; self_is = own_same same p self_name (names_apart open_name self_name refl) ∙ q.self_is; self_value = q.self_value },
               );
           roles = λ p x e. let i = a.roles p x e in (subst (λ m. p < m) (sym same.size) i.0, served p x e i.1);
+          clean = λ k p e. get_same same p token_name (names_apart open_name token_name refl) ∙ a.clean k p e;
           single = a.single;
         };
   }

@@ -1,9 +1,9 @@
 -- How the states of both sides stand to each other while a program runs.
-use Rattle.std.specs.Prelude.{◌≡◌, ℕ, ◌<◌, Bool, Option, Some, is_some, ⊤}
+use Rattle.std.specs.Prelude.{◌≡◌, ℕ, ◌<◌, Bool, Option, None, Some, is_some, ⊤}
 use Rattle.ruby_meaning.specs.declared.value.Value.{Value}
 use Rattle.es5_tree.specs.Values.{Text, Val, Truth, Obj, find_own}
 use Rattle.es5_tree.specs.Objects.Cells as cell
-use Rattle.es5_tree.specs.Objects.Links.{cell_at}
+use Rattle.es5_tree.specs.Objects.Links.{cell_at, get}
 use Rattle.es5_tree.specs.Intrinsics.Lines.{rest}
 use Rattle.es5_evaluation.specs.State.{Code, Activation, code_at, record_at, value_in}
 use Rattle.es5_evaluation.specs.State as es
@@ -130,6 +130,7 @@ pub record ObjectsHold (T : Scheme) (w : World) (r : Ruby) (h : Heap) (cs : List
   pub entries : (M : ℕ) (m : Name) (e : Entry) (l o : ℕ) → IsPlain m → entry_at r m M ≡ Some e → mod_of h l ≡ Some M → own_of h l (method_name m) ≡ Some (Obj o) → IsEntry T w e o
   pub procs : (k o : ℕ) (c : Closure) → (thing_at r k).form ≡ Block c → w.object k ≡ Some o → (c.frame < length r.frames) × IsProc T w (frame_at r c.frame).me h c o
   pub roles : (o : ℕ) (x : Role) → w.role o ≡ Some x → (o < length h) × Serves r h o x
+  pub clean : (k o : ℕ) → w.object k ≡ Some o → get h o token_name ≡ None
   pub single : (o p : ℕ) (t : Target) → w.role o ≡ Some (Token t) → w.role p ≡ Some (Token t) → o ≡ p
 
 -- ---- states

@@ -41,3 +41,9 @@ home_name = codes "$$home"
 -- the module whose body stands around the text as the n-th, from the outside
 abbrev pub module_name : ℕ → Text
 module_name n = codes "$$m" ++ decimal n
+
+-- a name that translations generate; others are plain names, of functions of the runtime
+pub data Generated : Text → Type 0 where
+  is_temp : (n : ℕ) → Generated (temp n)
+  is_local : (y : Name) → Generated (local y)
+  is_frame : (y : Text) → Generated (36 ∷ y)

@@ -3,6 +3,7 @@ use Rattle.std.specs.Prelude.{◌≡◌, ◌⊎◌, ℕ, ◌<◌, ◌≤◌, tru
 use Rattle.ruby_meaning.specs.declared.value.Value.{Value}
 use Rattle.es5_tree.specs.Values.{Text, Val, Obj}
 use Rattle.es5_tree.specs.Objects.Links.{cell_at}
+use Rattle.es5_evaluation.specs.State.{Activation, record_at}
 use Rattle.es5_evaluation.specs.State as es
 use Rattle.es5_evaluation.specs.Task.{Completion, Normal, Throw, Break, Continue, Scope}
 use Rattle.es5_evaluation.specs.Task as task
@@ -12,9 +13,9 @@ use Rattle.ruby_evaluation.specs.Task.{BreakLoop, Next, Return, Raise, Result, L
 use Rattle.ruby_evaluation.specs.Task as ruby
 use Rattle.ruby_evaluation.specs.Requires.{Files}
 use Rattle.ruby_evaluation.specs.Run.{eval_to}
-use Rattle.both_meanings.specs.Names.{temp}
-use Rattle.both_meanings.specs.World.{stands, Function, Framed, Target, OfFrame, OfCall, Token, Carrier, Listed, World, Grows, IsValue, Var, Sees, SeesLocal}
-use Rattle.both_meanings.specs.Holds.{Site, Scheme, IsTarget, value_of, Holds}
+use Rattle.both_meanings.specs.Names.{temp, Generated}
+use Rattle.both_meanings.specs.World.{shape_of, stands, Function, Framed, Target, OfFrame, OfCall, Token, Carrier, Listed, World, Grows, IsValue, Var, Sees, SeesLocal}
+use Rattle.both_meanings.specs.Holds.{Site, Scheme, IsTarget, variable_at, value_of, Holds}
 use Rattle.both_meanings.specs.Carries.{Carries}
 use Rattle.both_meanings.specs.Follows.{Post, Follows}
 
@@ -33,6 +34,12 @@ pub record Here (T : Scheme) (w : World) (r : Ruby) (p : Place) (at : ℕ) (site
   pub known : (o : ℕ) (f : Function) → T.known o f → w.function o ≡ Some f
 
 -- ---- what is left as it was
+
+-- The records that were there have their shapes, and plain names in them their values.
+pub record RecordsStay (rs rs1 : List Activation) : Type 0 where
+  pub more : length rs ≤ length rs1
+  pub shape : (q : ℕ) → q < length rs → shape_of (record_at rs1 q) ≡ shape_of (record_at rs q)
+  pub plain : (q : ℕ) (x : Text) → q < length rs → (Generated x → ⊥) → variable_at rs1 q x ≡ variable_at rs q x
 
 -- The temporaries of records that were there, and lists that are made there, but for those of the record r from t on.
 pub record Kept (w : World) (r t : ℕ) (s z : es.State) : Type 0 where
@@ -83,7 +90,7 @@ writes_from site t _ = t
 pub record Good (T : Scheme) (w : World) (p : Place) (r : ℕ) (site : Site) (t : ℕ) (before : State) (s : es.State) (x : Result) (st : State) (c : Completion) (z : es.State) : Type 0 where
   pub w1 : World
   pub holds : Holds T w1 st z
-  pub more : length s.records ≤ length z.records
+  pub stay : RecordsStay s.records z.records
   pub kept : Kept w r (writes_from site t x) s z
   pub later : Later w before.ruby w1 st.ruby
   pub is : Matches w1 p r site t z x c
@@ -92,7 +99,7 @@ pub record Good (T : Scheme) (w : World) (p : Place) (r : ℕ) (site : Site) (t 
 pub record Called (T : Scheme) (w : World) (before : State) (s : es.State) (x : Result) (st : State) (c : Completion) (z : es.State) : Type 0 where
   pub w1 : World
   pub holds : Holds T w1 st z
-  pub more : length s.records ≤ length z.records
+  pub stay : RecordsStay s.records z.records
   pub kept : KeptAll w s z
   pub later : Later w before.ruby w1 st.ruby
   pub is : Answers w1 x c
