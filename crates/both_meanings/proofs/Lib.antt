@@ -15,6 +15,7 @@ pub mod Starting
 pub mod Alike
 pub mod Quiet
 pub mod Tokens
+pub mod Landing
 pub mod Functions
 pub mod Methods
 pub mod Blocks
