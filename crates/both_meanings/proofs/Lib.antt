@@ -19,3 +19,4 @@ pub mod Landing
 pub mod Functions
 pub mod Methods
 pub mod Blocks
+pub mod Parts

@@ -101,17 +101,16 @@ in_other s r q x v y l n = ⊎_elim
 pub length_wrote : (s : State) (r : ℕ) (x : Text) (v : Val) → length (wrote s r x v).records ≡ length s.records
 length_wrote s r x v = length-set s.records r _
 
+-- its shape is the same where the variable was there
+pub shape_wrote : (s : State) (r : ℕ) (x : Text) (v : Val) (q : ℕ) → r < length s.records → has_variable (record_at s.records r) x ≡ true → shape_of (record_at (wrote s r x v).records q) ≡ shape_of (record_at s.records q)
+shape_wrote s r x v q l h = ⊎_elim
+    (λ (j : q ≡ r). subst (λ k. shape_of (record_at (wrote s r x v).records k) ≡ shape_of (record_at s.records k)) (sym j)
+    (ap shape_of (record_wrote s r x v l)
+    ∙ ap (λ ns. record { names = ns; constants = (record_at s.records r).constants; outer = (record_at s.records r).outer }) (same_names (record_at s.records r).variables x v (sym (found_stands (record_at s.records r).variables x) ∙ h))))
+    (λ n. ap shape_of (record_other s r q x v n))
+    (same_or_not q r)
+
 pub shapes_wrote : {w : World} (s : State) (r : ℕ) (x : Text) (v : Val) → Shapes w s.records → Var w r x → Shapes w (wrote s r x v).records
-shapes_wrote {w} s r x v h i = record { by = λ q sh e. one q sh e (h.by q sh e) }
-  where
-    one : (q : ℕ) (sh : Shape) → w.shape q ≡ Some sh → (q < length s.records) × (shape_of (record_at s.records q) ≡ sh) → (q < length (wrote s r x v).records) × (shape_of (record_at (wrote s r x v).records q) ≡ sh)
-    one q sh e at = (
-      subst (λ n. q < n) (sym (length_wrote s r x v)) at.0,
-      ⊎_elim
-          (λ (j : q ≡ r). subst (λ k. shape_of (record_at (wrote s r x v).records k) ≡ sh) (sym j)
-          (ap shape_of (record_wrote s r x v (var_within h r x i))
-          ∙ ap (λ l. record { names = l; constants = (record_at s.records r).constants; outer = (record_at s.records r).outer }) (same_names (record_at s.records r).variables x v (ap (λ z. stands x z.names) (h.by r i.sh i.shape).1 ∙ i.stands))
-          ∙ subst (λ k. shape_of (record_at s.records k) ≡ sh) j at.1))
-          (λ n. ap shape_of (record_other s r q x v n) ∙ at.1)
-          (same_or_not q r),
-    )
+shapes_wrote {w} s r x v h i = record {
+  by = λ q sh e. let at = h.by q sh e in (subst (λ n. q < n) (sym (length_wrote s r x v)) at.0, shape_wrote s r x v q (var_within h r x i) (has_var h r x i) ∙ at.1);
+}

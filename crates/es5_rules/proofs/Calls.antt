@@ -1,5 +1,5 @@
 -- Calls: of a name, of a member with its `this`, of a value; and what a function of the script does, from the record that is entered to how its body ends.
-use Rattle.std.proofs.Common.{◌≡◌, ℕ, ◌+◌, true, false, List, [], ◌∷◌, ◌++◌, length, Some, ap, ◌∙◌, arith}
+use Rattle.std.proofs.Common.{◌≡◌, ℕ, ◌+◌, true, false, List, [], ◌∷◌, ◌++◌, length, Some, ap, ◌∙◌, arith, append_assoc}
 use Rattle.opal_base.specs.declared.place.Pos.{Pos}
 use Rattle.es5_tree.specs.declared.tree.EsExpr.{EsExpr}
 use Rattle.es5_tree.specs.declared.tree.EsKind.TheVariants as kind
@@ -14,22 +14,29 @@ use Rattle.es5_evaluation.specs.Evaluate.{activation, all, arguments_object, cal
 use Rattle.es5_evaluation.proofs.Tasks.{then_assoc}
 use Rattle.es5_evaluation.proofs.Nodes as node
 use Rattle.es5_rules.specs.Steps.{Steps, Gives, Raises, Places, DoesAll, Gathers, Invoked}
-use Rattle.es5_rules.proofs.Steps.{steps_trans, steps_count, steps_from, steps_to, steps_begin, steps_look, steps_make, steps_enter}
+use Rattle.es5_rules.proofs.Steps.{steps_trans, steps_count, steps_seen, steps_from, steps_to, steps_begin, steps_look, steps_make, steps_enter}
 use Rattle.es5_rules.proofs.Expressions.{steps_name, steps_property}
 
 -- ---- the call of what a place holds
 
--- a callee with a place, its value, the arguments, and how the call ends
-pub call_ends : (e callee : EsExpr) (args : List EsExpr) (ρ : Scope) (s y z x : State) (m n l : ℕ) (place : Place) (f : Val) (us : List Val) (c : Completion) (vs ws xs : List State) → e.kind ≡ kind.Call callee args → Places callee ρ s m place y vs → ((k : Completion → Task) → Steps (read_place ρ.innermost place >>= k) y 0 (k (Normal f)) y []) → Gathers args ρ y n us z ws → Invoked e.pos f (this_of place) us z l c x xs
-    → (k : Completion → Task) → Steps (Ask (Evaluate e ρ) k) s (1 + (m + (n + l))) (k c) x (vs ++ (ws ++ xs))
+-- a callee with a place, its value, and the arguments
+pub call_begins : (e callee : EsExpr) (args : List EsExpr) (ρ : Scope) (s y z : State) (m n : ℕ) (place : Place) (f : Val) (us : List Val) (vs ws : List State) → e.kind ≡ kind.Call callee args → Places callee ρ s m place y vs → ((k : Completion → Task) → Steps (read_place ρ.innermost place >>= k) y 0 (k (Normal f)) y []) → Gathers args ρ y n us z ws
+    → (k : Completion → Task) → Steps (Ask (Evaluate e ρ) k) s (1 + (m + n)) (invoke e.pos f (this_of place) us >>= k) z (vs ++ ws)
 unfolding ◌>>=◌
-call_ends e callee args ρ s y z x m n l place f us c vs ws xs h a r g i k =
-    steps_count (1 + (m + (0 + (n + l)))) (1 + (m + (n + l))) (omega arith)
+call_begins e callee args ρ s y z m n place f us vs ws h a r g k =
+    steps_count (1 + (m + (0 + n))) (1 + (m + n)) (omega arith)
     (steps_trans (steps_begin k (node.eval_call e callee args ρ h))
     (steps_trans (a.by (λ d. referred (call_place e.pos args ρ) (call_with e.pos args ρ Undefined) d >>= k))
     (steps_from (then_assoc (read_place ρ.innermost place) (normally (call_with e.pos args ρ (this_of place))) k)
     (steps_trans (r (λ d. normally (call_with e.pos args ρ (this_of place)) d >>= k))
-    (steps_trans (g.by [] (λ us. invoke e.pos f (this_of place) us) k) (i.by k))))))
+    (g.by [] (λ us. invoke e.pos f (this_of place) us) k)))))
+
+-- and how the call ends
+pub call_ends : (e callee : EsExpr) (args : List EsExpr) (ρ : Scope) (s y z x : State) (m n l : ℕ) (place : Place) (f : Val) (us : List Val) (c : Completion) (vs ws xs : List State) → e.kind ≡ kind.Call callee args → Places callee ρ s m place y vs → ((k : Completion → Task) → Steps (read_place ρ.innermost place >>= k) y 0 (k (Normal f)) y []) → Gathers args ρ y n us z ws → Invoked e.pos f (this_of place) us z l c x xs
+    → (k : Completion → Task) → Steps (Ask (Evaluate e ρ) k) s (1 + (m + (n + l))) (k c) x (vs ++ (ws ++ xs))
+call_ends e callee args ρ s y z x m n l place f us c vs ws xs h a r g i k =
+    steps_seen (append_assoc vs ws xs) (steps_count ((1 + (m + n)) + l) (1 + (m + (n + l))) (omega arith)
+    (steps_trans (call_begins e callee args ρ s y z m n place f us vs ws h a r g k) (i.by k)))
 
 -- of a variable
 pub reads_variable : (r : ℕ) (x : Text) (b : ℕ) (v : Val) (s : State) → binding s.records r x ≡ Some b → value_in (record_at s.records b) x ≡ Some v → (k : Completion → Task) → Steps (read_place r (Variable x) >>= k) s 0 (k (Normal v)) s []
