@@ -37,7 +37,7 @@ use Rattle.both_meanings.specs.Names.{temp, local, module_name, self_name, block
 use Rattle.both_meanings.specs.World.{Shape, shape_of, stands, bound_in, Function, Framed, Target, OfFrame, Token, Carrier, World, Grows, IsValue, is_nil, Var, Sees, SeesModule, SeesModules, Behind, next, SeesLocal, own_local, outer_local, SeesHome}
 use Rattle.both_meanings.specs.Carries.{Carries, IsPlain, method_name, get_from}
 use Rattle.both_meanings.specs.Follows.{Follows}
-use Rattle.both_meanings.specs.Holds.{Site, Scheme, FrameHolds, Holds}
+use Rattle.both_meanings.specs.Holds.{Site, Texts, Scheme, FrameHolds, Holds}
 use Rattle.both_meanings.specs.Simulates.{Here, KeptAll, Later, Answers, a_value, a_raise, a_return, a_break, Called, Simulates}
 use Rattle.both_meanings.proofs.Bind.{follows_quiet, follows_outcome}
 use Rattle.both_meanings.proofs.Growing.{value_grows, sees_grows, modules_grow, home_grows, sees_local_grows}
@@ -74,11 +74,11 @@ block_finishes w p site never = record {
 
 -- What stands for a block that takes no parameters, where a function of that code and scope is: it was made in the record of the
 -- frame around the block's text.
-pub record IsBlock (T : Scheme) (w : World) (c : Closure) (fn : Function) : Type 0 where
+pub record IsBlock (X : Texts) (w : World) (c : Closure) (fn : Function) : Type 0 where
   pub call : ℕ
   pub ends : c.ending ≡ EndsCall call
   pub no_parameters : out-Params c.params ≡ no_parts
-  pub text : IsText T w c.body fn
+  pub text : IsText X w c.body fn
   pub returns : text.site.returns ≡ false
   pub frame : Framed
   pub around : w.frame c.frame ≡ Some frame
@@ -110,7 +110,7 @@ module _ (files : Files) (d : ℕ) (st : State) (l kb : ℕ) (c : Closure) (n : 
       ∙ ap (λ e. walk (eval_to files d) (run_closure e c None [] b k) st l) ends
       ∙ ap (λ t. walk (eval_to files d) (t >>= (λ x. Change (closed k) (ruby.Done (block_end x)))) (changed (with_new_frame fr) st) l) (bound_alone (out-Params c.params) (in_block k c) st.ruby b (run_node c.body (in_block k c)) no_params)
 
-module _ {T : Scheme} {files : Files} {d : ℕ} (ih : Simulates T files d) {w : World} {st : State} {s : es.State} (h : Holds T w st s) (c : Closure) (fn : Function) (is : IsBlock T w c fn) (covers : (y : Name) → is_some (at y (all_nil (own_of_block st.ruby c.frame c.start c.params c.body) [])) ≡ stands y is.text.own) (fo : ℕ) (there : w.function fo ≡ Some fn) (u pu : values.Val) (vu : IsValue w (frame_at st.ruby c.frame).me u) where
+module _ {T : Scheme} {files : Files} {d : ℕ} (ih : Simulates T files d) {w : World} {st : State} {s : es.State} (h : Holds T w st s) (c : Closure) (fn : Function) (is : IsBlock T.texts w c fn) (covers : (y : Name) → is_some (at y (all_nil (own_of_block st.ruby c.frame c.start c.params c.body) [])) ≡ stands y is.text.own) (fo : ℕ) (there : w.function fo ≡ Some fn) (u pu : values.Val) (vu : IsValue w (frame_at st.ruby c.frame).me u) where
   abbrev k1 : ℕ
   k1 = length st.ruby.frames
 

@@ -71,7 +71,7 @@ returns_temp {z = z} e0 rest ρ t u y named h var e =
 
 -- ---- the whole
 
-module _ {T : Scheme} {files : Files} {d : ℕ} (ih : Simulates T files d) (a : ℕ) (small : a ≤ 120) (site : Site) (loop : site.loop ≡ None) (room : 0 < site.top) (body : Node) (code rest : List EsStmt) (stands : (p : Place) → T.stands a site 0 (Evaluate body p) (λ ρ. all code ρ)) (e0 : EsExpr) (named : e0.kind ≡ kind.Name (temp 0)) (end : Result → Result) (p : Place) (finishes : (w : World) → NoToken w p.frame → Finishes w p site end) where
+module _ {T : Scheme} {files : Files} {d : ℕ} (ih : Simulates T files d) (a : ℕ) (small : a ≤ 120) (site : Site) (loop : site.loop ≡ None) (room : 0 < site.top) (body : Node) (code rest : List EsStmt) (stands : (p : Place) → T.texts.stands a site 0 (Evaluate body p) (λ ρ. all code ρ)) (e0 : EsExpr) (named : e0.kind ≡ kind.Name (temp 0)) (end : Result → Result) (p : Place) (finishes : (w : World) → NoToken w p.frame → Finishes w p site end) where
   -- what Ruby's side does behind the body
   abbrev ended : Result → Task
   ended x = Change (closed p.frame) (ruby.Done (end x))

@@ -37,7 +37,7 @@ use Rattle.both_meanings.specs.Names.{temp, local, module_name, self_name, block
 use Rattle.both_meanings.specs.World.{Shape, shape_of, stands, bound_in, Function, Framed, Target, OfFrame, Token, Carrier, World, Grows, IsValue, is_nil, Var, Sees, SeesModule, SeesModules, FrameIs, Behind, SeesLocal, SeesHome, bound_here, bound_around}
 use Rattle.both_meanings.specs.Carries.{Carries, IsPlain, method_name, get_from}
 use Rattle.both_meanings.specs.Follows.{Follows}
-use Rattle.both_meanings.specs.Holds.{Site, Scheme, FrameHolds, Holds}
+use Rattle.both_meanings.specs.Holds.{Site, Texts, Scheme, FrameHolds, Holds}
 use Rattle.both_meanings.specs.Simulates.{Here, KeptAll, Later, Answers, a_value, a_raise, a_return, a_break, Called, Simulates}
 use Rattle.both_meanings.proofs.Bind.{follows_quiet, follows_outcome}
 use Rattle.both_meanings.proofs.Growing.{value_grows, sees_grows, modules_grow, module_grows, binds_grows}
@@ -50,7 +50,7 @@ use Rattle.both_meanings.proofs.Starting.{Prelude, Prepared, prepares, enters_fu
 
 
 -- What stands for a text, with the names of its own locals, where a function of that code and scope is.
-pub record IsText (T : Scheme) (w : World) (text : Node) (fn : Function) : Type 0 where
+pub record IsText (X : Texts) (w : World) (text : Node) (fn : Function) : Type 0 where
   pub a : ℕ
   pub small : a ≤ 120
   pub site : Site
@@ -62,7 +62,7 @@ pub record IsText (T : Scheme) (w : World) (text : Node) (fn : Function) : Type 
   pub begin : List EsStmt
   pub begins : Prelude nil own begin
   pub code : List EsStmt
-  pub stands_for : (p : Place) → T.stands a site 0 (Evaluate text p) (λ ρ. all code ρ)
+  pub stands_for : (p : Place) → X.stands a site 0 (Evaluate text p) (λ ρ. all code ρ)
   pub result : EsExpr
   pub named : result.kind ≡ kind.Name (temp 0)
   pub rest : List EsStmt
@@ -79,17 +79,17 @@ pub record IsText (T : Scheme) (w : World) (text : Node) (fn : Function) : Type 
   pub self : stands self_name (first ∷ locals fn.code.params fn.code.body) ≡ true
   pub temps : (n : ℕ) → n < site.top → stands (temp n) (first ∷ locals fn.code.params fn.code.body) ≡ true
   pub declares : (y : Name) → stands (local y) (first ∷ locals fn.code.params fn.code.body) ≡ stands y own
-  pub free : (y : Text) (u : values.Val) → T.names y u → stands y (first ∷ locals fn.code.params fn.code.body) ≡ false
+  pub free : (y : Text) (u : values.Val) → X.names y u → stands y (first ∷ locals fn.code.params fn.code.body) ≡ false
   pub free_home : stands home_name (first ∷ locals fn.code.params fn.code.body) ≡ false
   pub free_modules : (n : ℕ) → stands (module_name n) (first ∷ locals fn.code.params fn.code.body) ≡ false
   -- what is seen from where it was made
   pub shape : Shape
   pub there : w.shape fn.scope ≡ Some shape
-  pub sees : (y : Text) (u : values.Val) → T.names y u → Sees w fn.scope y u
-  pub knows : (o : ℕ) (f : Function) → T.known o f → w.function o ≡ Some f
+  pub sees : (y : Text) (u : values.Val) → X.names y u → Sees w fn.scope y u
+  pub knows : (o : ℕ) (f : Function) → X.known o f → w.function o ≡ Some f
   pub nil_object : ℕ
   pub nil_is : w.object 0 ≡ Some nil_object
-  pub nil_name : T.names nil (Obj nil_object)
+  pub nil_name : X.names nil (Obj nil_object)
 
 -- ---- locals at first
 
@@ -133,7 +133,7 @@ first_of_names : (ps : List Text) (n : Text) (pu : values.Val) (ls : List Text) 
 unfolding bound_params find_own
 first_of_names ps n pu ls e = ap (λ qs. find_own (bound_params qs (pu ∷ []) ++ [] ++ undefined_variables ls) n) e ∙ ap (λ b. if b then Some pu else find_own (undefined_variables ls) n) ((bytes_eq-Decides n n).1 refl)
 
-module _ {T : Scheme} {files : Files} {d : ℕ} (ih : Simulates T files d) {w : World} {st : State} {s : es.State} (h : Holds T w st s) (text : Node) (ds : Declared) (fn : Function) (is : IsText T w text fn) (fo : ℕ) (there : w.function fo ≡ Some fn) (u pu : values.Val) (fr : Frame) (vu : IsValue w fr.me u) (locals_are : fr.locals ≡ all_nil ds []) (covers : (y : Name) → is_some (at y (all_nil ds [])) ≡ stands y is.own) where
+module _ {T : Scheme} {files : Files} {d : ℕ} (ih : Simulates T files d) {w : World} {st : State} {s : es.State} (h : Holds T w st s) (text : Node) (ds : Declared) (fn : Function) (is : IsText T.texts w text fn) (fo : ℕ) (there : w.function fo ≡ Some fn) (u pu : values.Val) (fr : Frame) (vu : IsValue w fr.me u) (locals_are : fr.locals ≡ all_nil ds []) (covers : (y : Name) → is_some (at y (all_nil ds [])) ≡ stands y is.own) where
   abbrev pub k : ℕ
   k = length st.ruby.frames
 

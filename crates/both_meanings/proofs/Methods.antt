@@ -36,7 +36,7 @@ use Rattle.both_meanings.specs.Names.{temp, local, module_name, self_name, block
 use Rattle.both_meanings.specs.World.{Shape, shape_of, stands, bound_in, Function, Framed, Target, OfFrame, Token, Carrier, World, Grows, IsValue, is_nil, Var, Sees, SeesModule, SeesModules, FrameIs, own_local, bound_here, bound_around}
 use Rattle.both_meanings.specs.Carries.{Carries, IsPlain, method_name, get_from}
 use Rattle.both_meanings.specs.Follows.{Follows}
-use Rattle.both_meanings.specs.Holds.{Site, Scheme, FrameHolds, Holds}
+use Rattle.both_meanings.specs.Holds.{Site, Texts, Scheme, FrameHolds, Holds}
 use Rattle.both_meanings.specs.Simulates.{Here, KeptAll, Later, Answers, a_value, a_raise, a_return, a_break, Called, Simulates}
 use Rattle.both_meanings.proofs.Bind.{follows_quiet, follows_outcome}
 use Rattle.both_meanings.proofs.Growing.{value_grows, sees_grows, modules_grow, module_grows, binds_grows}
@@ -74,9 +74,9 @@ method_finishes w k site never none = record {
 -- ---- the function of a method
 
 -- what stands for a method that takes no parameters, where a function of that code and scope is
-pub record IsMethod (T : Scheme) (w : World) (x : Method) (fn : Function) : Type 0 where
+pub record IsMethod (X : Texts) (w : World) (x : Method) (fn : Function) : Type 0 where
   pub no_parameters : out-Params x.params ≡ no_parts
-  pub text : IsText T w x.body fn
+  pub text : IsText X w x.body fn
   pub covers : (y : Name) → is_some (at y (all_nil (own_of_method x.params x.body) [])) ≡ stands y text.own
   pub nexts : text.site.nexts ≡ false
   pub takes_block : text.first ≡ block_name
@@ -98,7 +98,7 @@ called_alone files d st l v b m x e no_params =
     ap (λ o. walk (eval_to files d) (found o v m [] b) st l) e
     ∙ ap (λ t. walk (eval_to files d) t st l) (entered_alone (out-Params x.params) x v b no_params)
 
-module _ {T : Scheme} {files : Files} {d : ℕ} (ih : Simulates T files d) {w : World} {st : State} {s : es.State} (h : Holds T w st s) (x : Method) (fn : Function) (is : IsMethod T w x fn) (fo : ℕ) (there : w.function fo ≡ Some fn) (v b : Value) (u bu : values.Val) (vu : IsValue w v u) (bv : IsValue w b bu) where
+module _ {T : Scheme} {files : Files} {d : ℕ} (ih : Simulates T files d) {w : World} {st : State} {s : es.State} (h : Holds T w st s) (x : Method) (fn : Function) (is : IsMethod T.texts w x fn) (fo : ℕ) (there : w.function fo ≡ Some fn) (v b : Value) (u bu : values.Val) (vu : IsValue w v u) (bv : IsValue w b bu) where
   abbrev k : ℕ
   k = length st.ruby.frames
 

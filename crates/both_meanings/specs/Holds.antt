@@ -30,14 +30,18 @@ pub record Site : Type 0 where
   pub returns : Bool
   pub nexts : Bool
 
--- What a translation makes of texts: the names that have a stub at the root, what its own names stand for wherever code runs, and the
--- functions among that; a task that stands for a request, for one of depth at most a, at a place of a text, with its value in
--- a temporary; the functions that stand for the entry of a method and for the text of a block, or lambda, where they are made.
-pub record Scheme : Type 1 where
-  pub called : List Name
+-- What a translation makes of texts: what its own names stand for wherever code runs, and the functions among that; and a task that
+-- stands for a request, for one of depth at most a, at a place of a text, with its value in a temporary.
+pub record Texts : Type 1 where
   pub names : Text → Val → Type 0
   pub known : ℕ → Function → Type 0
   pub stands : (a : ℕ) → Site → (t : ℕ) → Request → (Scope → task.Task) → Type 0
+
+-- And the names that have a stub at the root, and the functions that stand for the entry of a method and for the text of a block,
+-- or lambda, where they are made.
+pub record Scheme : Type 1 where
+  pub texts : Texts
+  pub called : List Name
   pub entry : World → Entry → Function → Type 0
   pub block : World → Closure → Function → Type 0
   pub entry_grows : (w w1 : World) (e : Entry) (f : Function) → Grows w w1 → entry w e f → entry w1 e f

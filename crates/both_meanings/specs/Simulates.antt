@@ -30,8 +30,8 @@ pub record Here (T : Scheme) (w : World) (r : Ruby) (p : Place) (at : ℕ) (site
   pub returns : site.returns ≡ true → (frame_at r p.frame).returns ≡ p.frame
   pub locals : (x : Name) → stands x site.names ≡ true → (h : ℕ) × SeesLocal w p.frame x h
   pub temps : (n : ℕ) → n < site.top → Var w at (temp n)
-  pub names : (x : Text) (u : Val) → T.names x u → Sees w at x u
-  pub known : (o : ℕ) (f : Function) → T.known o f → w.function o ≡ Some f
+  pub names : (x : Text) (u : Val) → T.texts.names x u → Sees w at x u
+  pub known : (o : ℕ) (f : Function) → T.texts.known o f → w.function o ≡ Some f
 
 -- ---- what is left as it was
 
@@ -119,4 +119,4 @@ Below (Some l) t = l < t
 
 -- With at most d requests nested, each request is followed by what stands for it, from any pair of states.
 pub record Simulates (T : Scheme) (files : Files) (d : ℕ) : Type 1 where
-  pub by : (a : ℕ) (site : Site) (t : ℕ) (q : Request) (u : Scope → task.Task) (w : World) (ρ : Scope) (st : State) (s : es.State) (g : ℕ) → g ≤ d → a ≤ 120 → Below site.loop t → T.stands a site t q u → Here T w st.ruby (place_of q) ρ.innermost site → Holds T w st s → Follows (Carries T.called) st.calls g a (eval_to files d q st g) (u ρ) s (Good T w (place_of q) ρ.innermost site t st s)
+  pub by : (a : ℕ) (site : Site) (t : ℕ) (q : Request) (u : Scope → task.Task) (w : World) (ρ : Scope) (st : State) (s : es.State) (g : ℕ) → g ≤ d → a ≤ 120 → Below site.loop t → T.texts.stands a site t q u → Here T w st.ruby (place_of q) ρ.innermost site → Holds T w st s → Follows (Carries T.called) st.calls g a (eval_to files d q st g) (u ρ) s (Good T w (place_of q) ρ.innermost site t st s)
