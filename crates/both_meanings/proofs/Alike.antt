@@ -12,14 +12,9 @@ use Rattle.both_meanings.specs.Names.{local, IsFrameName, Generated, is_local, i
 use Rattle.both_meanings.specs.World.{shape_of, World}
 use Rattle.both_meanings.specs.Holds.{Scheme, variable_at, RecordsHold, Holds}
 use Rattle.both_meanings.specs.Simulates.{KeptAll}
+use Rattle.both_meanings.specs.Code.{Alike}
 use Rattle.both_meanings.proofs.Records.{wrote, length_wrote, record_wrote, record_other, value_other, same_or_not}
 use Rattle.both_meanings.proofs.Entering.{record_kept}
-
--- The records that were there have their shapes, and generated names in them their values.
-pub record Alike (rs rs1 : List Activation) : Type 0 where
-  pub more : length rs ≤ length rs1
-  pub shape : (q : ℕ) → q < length rs → shape_of (record_at rs1 q) ≡ shape_of (record_at rs q)
-  pub values : (q : ℕ) (x : Text) → q < length rs → Generated x → variable_at rs1 q x ≡ variable_at rs q x
 
 pub alike_refl : (rs : List Activation) → Alike rs rs
 alike_refl rs = record { more = omega arith; shape = λ q l. refl; values = λ q x l g. refl }

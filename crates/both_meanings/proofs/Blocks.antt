@@ -39,6 +39,7 @@ use Rattle.both_meanings.specs.Carries.{Carries, IsPlain, method_name, get_from}
 use Rattle.both_meanings.specs.Follows.{Follows}
 use Rattle.both_meanings.specs.Holds.{Site, Texts, Scheme, FrameHolds, Holds}
 use Rattle.both_meanings.specs.Simulates.{Here, KeptAll, Later, Answers, a_value, a_raise, a_return, a_break, Called, Simulates}
+use Rattle.both_meanings.specs.Code.{no_parts, IsText, IsBlock}
 use Rattle.both_meanings.proofs.Bind.{follows_quiet, follows_outcome}
 use Rattle.both_meanings.proofs.Growing.{value_grows, sees_grows, modules_grow, home_grows, sees_local_grows}
 use Rattle.both_meanings.proofs.NamesDiffer.{frame_name, local_temp}
@@ -46,10 +47,9 @@ use Rattle.both_meanings.proofs.Records.{true_or_false, bound_is}
 use Rattle.both_meanings.proofs.Holding.{NoToken}
 use Rattle.both_meanings.proofs.Entering.{chosen, passed, some_same, record_kept, frame_new, entered, entered_grows, entered_later, entered_holds, entered_shapes, sees_around, modules_around, home_around}
 use Rattle.both_meanings.proofs.Bodies.{Finishes}
-use Rattle.both_meanings.proofs.Functions.{IsText, FrameRest, f, sh1, w2, grows2, shaped2, outer2, scope_below, free2, sees_first, function_follows}
-use Rattle.both_meanings.proofs.Starting.{Prelude, Prepared, prepares, enters_function, last_at}
+use Rattle.both_meanings.proofs.Functions.{FrameRest, f, sh1, w2, grows2, shaped2, outer2, scope_below, free2, sees_first, function_follows}
+use Rattle.both_meanings.proofs.Starting.{Prepared, prepares, enters_function, last_at}
 
-use Rattle.both_meanings.proofs.Methods.{no_parts}
 
 true_false : true ≡ false → ⊥
 true_false e = cc
@@ -69,23 +69,6 @@ block_finishes w p site never = record {
     thrown _ _ (a_raise e o i) = refl
     thrown _ _ (a_break n e o v u i j l) = refl
     thrown _ _ (a_return n e o v u i j l) = refl
-
--- ---- the function of a block
-
--- What stands for a block that takes no parameters, where a function of that code and scope is: it was made in the record of the
--- frame around the block's text.
-pub record IsBlock (X : Texts) (w : World) (c : Closure) (fn : Function) : Type 0 where
-  pub call : ℕ
-  pub ends : c.ending ≡ EndsCall call
-  pub no_parameters : out-Params c.params ≡ no_parts
-  pub text : IsText X w c.body fn
-  pub returns : text.site.returns ≡ false
-  pub frame : Framed
-  pub around : w.frame c.frame ≡ Some frame
-  pub made : fn.scope ≡ frame.record_at
-  pub free_block : stands block_name (text.first ∷ locals fn.code.params fn.code.body) ≡ false
-  -- a local that it names is one of its own, or is seen from the frame around
-  pub names : (y : Name) → stands y text.site.names ≡ true → (stands y text.own ≡ true) ⊎ ((stands y text.own ≡ false) × ((j : ℕ) × SeesLocal w c.frame y j))
 
 -- ---- the call
 

@@ -16,7 +16,7 @@ use Rattle.both_meanings.specs.Carries.{Heap}
 use Rattle.both_meanings.specs.World.{Shape, shape_of, Framed, Target, OfFrame, OfCall, Role, Token, Carrier, Listed, World, Grows, IsValue, bound_in, bound_around, Sees, SeesModule, SeesModules, SeesHome}
 use Rattle.both_meanings.specs.Holds.{Scheme, Shapes, IsTarget, Serves, variable_at, FrameHolds, RecordsHold, ObjectsHold, IsProc, Holds}
 use Rattle.both_meanings.specs.Simulates.{Later}
-use Rattle.both_meanings.proofs.Growing.{value_grows, sees_grows, modules_grow, home_grows, frame_is_grows, is_entry_grows}
+use Rattle.both_meanings.proofs.Growing.{grows_trans, value_grows, sees_grows, modules_grow, home_grows, frame_is_grows, is_entry_grows}
 use Rattle.both_meanings.proofs.Records.{same_or_not}
 use Rattle.both_meanings.proofs.Holding.{carries_same}
 
@@ -217,7 +217,7 @@ module _ {T : Scheme} {w : World} {st : State} {s : es.State} (h : Holds T w st 
               let q = p.1 in (
                 omega (arith, p.0, more_frames),
                 record {
-                  function = q.function; is = q.is; text = T.block_grows w w1 c q.function gr q.text; self = q.self; self_is = q.self_is;
+                  function = q.function; is = q.is; since = q.since; grown = grows_trans q.grown gr; text = q.text; self = q.self; self_is = q.self_is;
                   self_value = subst (λ y. IsValue w1 y.me q.self) (sym (frame_kept st.ruby fr c.frame p.0)) (value_grows gr _ q.self q.self_value);
                 },
               );

@@ -39,6 +39,7 @@ use Rattle.both_meanings.specs.Carries.{Carries, IsPlain, method_name, get_from}
 use Rattle.both_meanings.specs.Follows.{Follows}
 use Rattle.both_meanings.specs.Holds.{Site, Texts, Scheme, FrameHolds, Holds}
 use Rattle.both_meanings.specs.Simulates.{Here, KeptAll, Later, Answers, a_value, a_raise, a_return, a_break, Called, Simulates}
+use Rattle.both_meanings.specs.Code.{Prelude, IsText}
 use Rattle.both_meanings.proofs.Bind.{follows_quiet, follows_outcome}
 use Rattle.both_meanings.proofs.Growing.{value_grows, sees_grows, modules_grow, module_grows, binds_grows}
 use Rattle.both_meanings.proofs.NamesDiffer.{frame_name, local_temp, no_temp, no_local}
@@ -46,50 +47,8 @@ use Rattle.both_meanings.proofs.Records.{true_or_false, bound_is}
 use Rattle.both_meanings.proofs.Holding.{NoToken}
 use Rattle.both_meanings.proofs.Entering.{chosen, passed, some_same, record_kept, frame_new, entered, entered_grows, entered_later, entered_holds, entered_shapes, sees_around, module_around, modules_around}
 use Rattle.both_meanings.proofs.Bodies.{Finishes, Began, body_follows}
-use Rattle.both_meanings.proofs.Starting.{Prelude, Prepared, prepares, enters_function, last_at}
+use Rattle.both_meanings.proofs.Starting.{Prepared, prepares, enters_function, last_at}
 
-
--- What stands for a text, with the names of its own locals, where a function of that code and scope is.
-pub record IsText (X : Texts) (w : World) (text : Node) (fn : Function) : Type 0 where
-  pub a : ℕ
-  pub small : a ≤ 120
-  pub site : Site
-  pub loop : site.loop ≡ None
-  pub room : 0 < site.top
-  -- its statements: the first values, the text's, `return t$0;` and the declarations of the temporaries
-  pub own : List Name
-  pub nil : Text
-  pub begin : List EsStmt
-  pub begins : Prelude nil own begin
-  pub code : List EsStmt
-  pub stands_for : (p : Place) → X.stands a site 0 (Evaluate text p) (λ ρ. all code ρ)
-  pub result : EsExpr
-  pub named : result.kind ≡ kind.Name (temp 0)
-  pub rest : List EsStmt
-  pub body : fn.code.body ≡ begin ++ (code ++ (stmt.Return (Some result) ∷ rest))
-  -- its parameter, a name of frames
-  pub nameless : fn.code.name ≡ None
-  pub first : Text
-  pub tail : Text
-  pub first_is : first ≡ 36 ∷ tail
-  pub no_self : self_name ≡ first → ⊥
-  pub params : fn.code.params ≡ first ∷ []
-  -- the names that it declares
-  pub quiet : (own_code fn.code.body).arguments ≡ false
-  pub self : stands self_name (first ∷ locals fn.code.params fn.code.body) ≡ true
-  pub temps : (n : ℕ) → n < site.top → stands (temp n) (first ∷ locals fn.code.params fn.code.body) ≡ true
-  pub declares : (y : Name) → stands (local y) (first ∷ locals fn.code.params fn.code.body) ≡ stands y own
-  pub free : (y : Text) (u : values.Val) → X.names y u → stands y (first ∷ locals fn.code.params fn.code.body) ≡ false
-  pub free_home : stands home_name (first ∷ locals fn.code.params fn.code.body) ≡ false
-  pub free_modules : (n : ℕ) → stands (module_name n) (first ∷ locals fn.code.params fn.code.body) ≡ false
-  -- what is seen from where it was made
-  pub shape : Shape
-  pub there : w.shape fn.scope ≡ Some shape
-  pub sees : (y : Text) (u : values.Val) → X.names y u → Sees w fn.scope y u
-  pub knows : (o : ℕ) (f : Function) → X.known o f → w.function o ≡ Some f
-  pub nil_object : ℕ
-  pub nil_is : w.object 0 ≡ Some nil_object
-  pub nil_name : X.names nil (Obj nil_object)
 
 -- ---- locals at first
 

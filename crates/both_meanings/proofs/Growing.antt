@@ -78,7 +78,7 @@ module _ {w w1 : World} (g : Grows w w1) where
   answers_grow _ _ (a_break n e o v u i j l) = a_break n e o v u (g.role e _ i) (g.role o _ j) (value_grows v u l)
 
   pub is_entry_grows : (T : Scheme) (e : Entry) (o : ℕ) → IsEntry T w e o → IsEntry T w1 e o
-  is_entry_grows T e o i = record { function = i.function; is = g.function o i.function i.is; text = T.entry_grows w w1 e i.function g i.text }
+  is_entry_grows T e o i = record { function = i.function; is = g.function o i.function i.is; since = i.since; grown = grows_trans i.grown g; text = i.text }
 
   -- a node stands where it stood, while its frame is as open as it was
   pub here_grows : (T : Scheme) (r r1 : Ruby) (p : Place) (at : ℕ) (site : Site) → (frame_at r1 p.frame).is_open ≡ (frame_at r p.frame).is_open → (frame_at r1 p.frame).returns ≡ (frame_at r p.frame).returns → Here T w r p at site → Here T w1 r1 p at site

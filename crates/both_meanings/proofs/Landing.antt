@@ -23,12 +23,13 @@ use Rattle.both_meanings.specs.World.{shape_of, Target, OfFrame, OfCall, Role, T
 use Rattle.both_meanings.specs.Follows.{Follows}
 use Rattle.both_meanings.specs.Holds.{Scheme, open_name, token_name, value_name, variable_at, Holds}
 use Rattle.both_meanings.specs.Simulates.{RecordsStay, KeptAll, Later, Answers, a_value, a_raise, a_return, a_break, Called}
+use Rattle.both_meanings.specs.Code.{Alike, closed_with, Since, Closes, Lands}
 use Rattle.both_meanings.proofs.Meeting.{met_none}
 use Rattle.both_meanings.proofs.Bind.{after, follows_then, follows_end, follows_outcome}
 use Rattle.both_meanings.proofs.Records.{same_or_not}
 use Rattle.both_meanings.proofs.Entering.{chosen, passed}
 use Rattle.both_meanings.proofs.Laters.{later_trans, later_ruby, stay_trans, kept_all_trans}
-use Rattle.both_meanings.proofs.Alike.{Alike, records_alike}
+use Rattle.both_meanings.proofs.Alike.{records_alike}
 use Rattle.both_meanings.proofs.Tokens.{holds_call_closed, cell_other}
 
 -- an own property is found
@@ -39,32 +40,6 @@ get_own h o x v l e = by (length h) l
     by : (n : ℕ) → o < n → first_own h (first_of_chain n h (Some o)) x ≡ Some v
     by zero i = absurd (omega (arith, i))
     by (suc n) i = ap (λ a. first a (λ u. first_own h (first_of_chain n h (link_at h o)) x)) e
-
--- ---- what a script does behind a call that may jump to a token
-
--- the state in which the token is closed, with these records
-abbrev pub closed_with : es.State → ℕ → List Activation → es.State
-closed_with z o rs = record (with_object z o (put (cell_at z.heap o) open_name (Truth false))) { records = rs }
-
--- where it has come since the state s
-pub record Since (s z : es.State) (o : ℕ) : Type 0 where
-  pub stay : RecordsStay s.records z.records
-  pub there : o < length z.heap
-  pub plain : (cell_at z.heap o).kind ≡ cell.Object
-
--- the task closes the token and ends so; the first b records are left as they are
-pub record Closes (b o : ℕ) (z : es.State) (t : task.Task) (c : Completion) : Type 0 where
-  pub m : ℕ
-  pub rs : List Activation
-  pub runs : Steps t z m (Done c) (closed_with z o rs) []
-  pub alike : Alike z.records rs
-  pub stays : (q : ℕ) (x : Text) → q < b → variable_at rs q x ≡ variable_at z.records q x
-
--- a value goes on, a jump to the token gives its value, and what else is thrown goes on
-pub record Lands (s : es.State) (b o : ℕ) (kk : Completion → task.Task) : Type 0 where
-  pub value : (z : es.State) (u : values.Val) → Since s z o → Closes b o z (kk (Normal u)) (Normal u)
-  pub landed : (z : es.State) (e : ℕ) (u : values.Val) → Since s z o → get z.heap e token_name ≡ Some (Obj o) → get z.heap e value_name ≡ Some u → Closes b o z (kk (Throw (Obj e))) (Normal u)
-  pub thrown : (z : es.State) (e : ℕ) → Since s z o → (get z.heap e token_name ≡ Some (Obj o) → ⊥) → Closes b o z (kk (Throw (Obj e))) (Throw (Obj e))
 
 -- ---- the whole
 

@@ -38,6 +38,7 @@ use Rattle.both_meanings.specs.Carries.{Carries, IsPlain, method_name, get_from}
 use Rattle.both_meanings.specs.Follows.{Follows}
 use Rattle.both_meanings.specs.Holds.{Site, Texts, Scheme, FrameHolds, Holds}
 use Rattle.both_meanings.specs.Simulates.{Here, KeptAll, Later, Answers, a_value, a_raise, a_return, a_break, Called, Simulates}
+use Rattle.both_meanings.specs.Code.{no_parts, IsText, IsMethod}
 use Rattle.both_meanings.proofs.Bind.{follows_quiet, follows_outcome}
 use Rattle.both_meanings.proofs.Growing.{value_grows, sees_grows, modules_grow, module_grows, binds_grows}
 use Rattle.both_meanings.proofs.NamesDiffer.{frame_name, local_temp}
@@ -45,15 +46,11 @@ use Rattle.both_meanings.proofs.Records.{true_or_false, bound_is}
 use Rattle.both_meanings.proofs.Holding.{NoToken}
 use Rattle.both_meanings.proofs.Entering.{chosen, passed, some_same, record_kept, frame_new, entered, entered_grows, entered_later, entered_holds, entered_shapes, sees_around, module_around, modules_around}
 use Rattle.both_meanings.proofs.Bodies.{Finishes}
-use Rattle.both_meanings.proofs.Functions.{IsText, FrameRest, f, sh1, w2, grows2, shaped2, outer2, scope_below, free2, sees_first, function_follows}
-use Rattle.both_meanings.proofs.Starting.{Prelude, Prepared, prepares, enters_function, last_at}
+use Rattle.both_meanings.proofs.Functions.{FrameRest, f, sh1, w2, grows2, shaped2, outer2, scope_below, free2, sees_first, function_follows}
+use Rattle.both_meanings.proofs.Starting.{Prepared, prepares, enters_function, last_at}
 
 none_some : {A : Type 0} (x : A) → None ≡ Some x → ⊥
 none_some x e = cc
-
--- no parameters
-abbrev pub no_parts : Parts
-no_parts = record { plain = []; optional = []; defaults = []; rest = rest.None; after = []; block = None }
 
 -- ---- the end
 
@@ -70,19 +67,6 @@ method_finishes w k site never none = record {
     thrown _ _ (a_raise e o i) = refl
     thrown _ _ (a_break n e o v u i j l) = refl
     thrown _ _ (a_return n e o v u i j l) = passed n k (Val v) (Leaves (Return n v)) (λ q. none o (j ∙ ap (λ m. Some (Token (OfFrame m))) q))
-
--- ---- the function of a method
-
--- what stands for a method that takes no parameters, where a function of that code and scope is
-pub record IsMethod (X : Texts) (w : World) (x : Method) (fn : Function) : Type 0 where
-  pub no_parameters : out-Params x.params ≡ no_parts
-  pub text : IsText X w x.body fn
-  pub covers : (y : Name) → is_some (at y (all_nil (own_of_method x.params x.body) [])) ≡ stands y text.own
-  pub nexts : text.site.nexts ≡ false
-  pub takes_block : text.first ≡ block_name
-  pub names : (y : Name) → stands y text.site.names ≡ true → stands y text.own ≡ true
-  pub home : SeesModule w fn.scope home_name x.owner
-  pub modules : SeesModules w fn.scope x.around.modules
 
 -- ---- the call
 

@@ -33,6 +33,7 @@ use Rattle.both_meanings.specs.World.{Listed, World, IsValue}
 use Rattle.both_meanings.specs.Follows.{calls_of, ahead, Post, Follows}
 use Rattle.both_meanings.specs.Holds.{Site, Scheme, value_of, Holds}
 use Rattle.both_meanings.specs.Simulates.{Here, RecordsStay, Kept, Later, Matches, m_value, m_thrown, m_break, m_continue, m_next, m_return, or_top, writes_from, Good, Below}
+use Rattle.both_meanings.specs.Code.{Sets}
 use Rattle.both_meanings.proofs.Meeting.{met_none}
 use Rattle.both_meanings.proofs.Bind.{after, follows_then, follows_end, follows_post, follows_quiet, follows_starves, follows_task}
 use Rattle.both_meanings.proofs.Growing.{here_grows}
@@ -147,14 +148,6 @@ module _ {T : Scheme} {w : World} {p : Place} {site : Site} (t u : ℕ) (low : B
       (λ x st1 l c z g i. behind_part n av next x st1 l c z g i g.is))
 
 -- ---- a statement that puts a value into a temporary
-
--- `t = a;`
-pub record Sets (ts : EsStmt) (t : ℕ) (a : EsExpr) : Type 0 where
-  pub whole : EsExpr
-  pub target : EsExpr
-  pub is : ts ≡ stmt.Expr whole
-  pub assigns : whole.kind ≡ kind.Assign target a
-  pub named : target.kind ≡ kind.Name (temp t)
 
 -- what follows the value
 abbrev pub stored_then : Pos → Scope → ℕ → List EsStmt → Completion → task.Task

@@ -25,6 +25,7 @@ use Rattle.es5_rules.proofs.Records.{value_other, value_wrote}
 use Rattle.ruby_evaluation.specs.Tables.{Name}
 use Rattle.both_meanings.specs.Names.{local, self_name, IsFrameName}
 use Rattle.both_meanings.specs.World.{Shape, shape_of, stands, World}
+use Rattle.both_meanings.specs.Code.{Inits, inits_none, inits_more, Prelude, prelude}
 use Rattle.both_meanings.proofs.NamesDiffer.{frame_name, no_temp, no_local}
 use Rattle.both_meanings.proofs.Records.{true_or_false, found_stands, same_names}
 
@@ -63,15 +64,6 @@ does_last_var x e ρ s a m v at g i j =
     (does_var x e ρ (with_record s a) (with_record s a) ρ.innermost m v [] g i (ap (λ b. has_variable b x) here ∙ j))
 
 -- ---- the first statements
-
--- `var l$x = $$nil;` for each of these names
-pub data Inits (nil : Text) : List Name → List EsStmt → Type 0 where
-  inits_none : Inits nil [] []
-  inits_more : (y : Name) (ys : List Name) (e : EsExpr) (ts : List EsStmt) → e.kind ≡ kind.Name nil → Inits nil ys ts → Inits nil (y ∷ ys) (stmt.Var (local y) (Some e) ∷ ts)
-
--- `var $$self = this;`, and these
-pub data Prelude (nil : Text) : List Name → List EsStmt → Type 0 where
-  prelude : (ys : List Name) (e : EsExpr) (ts : List EsStmt) → e.kind ≡ kind.This → Inits nil ys ts → Prelude nil ys (stmt.Var self_name (Some e) ∷ ts)
 
 false_true : false ≡ true → ⊥
 false_true e = cc

@@ -197,7 +197,7 @@ module _ {T : Scheme} {w : World} {st : State} {s : es.State} (h : Holds T w st 
               let b = a.procs k p c e i in
               let q = b.1 in (
                 b.0,
-                record { function = q.function; is = q.is; text = q.text; self = q.self; self_is = own_same same p self_name (names_apart open_name self_name refl) ∙ q.self_is; self_value = q.self_value },
+                record { function = q.function; is = q.is; since = q.since; grown = q.grown; text = q.text; self = q.self; self_is = own_same same p self_name (names_apart open_name self_name refl) ∙ q.self_is; self_value = q.self_value },
               );
           roles = λ p x e. let i = a.roles p x e in (subst (λ m. p < m) (sym same.size) i.0, served p x e i.1);
           clean = λ k p e. get_same same p token_name (names_apart open_name token_name refl) ∙ a.clean k p e;

@@ -44,8 +44,6 @@ pub record Scheme : Type 1 where
   pub called : List Name
   pub entry : World → Entry → Function → Type 0
   pub block : World → Closure → Function → Type 0
-  pub entry_grows : (w w1 : World) (e : Entry) (f : Function) → Grows w w1 → entry w e f → entry w1 e f
-  pub block_grows : (w w1 : World) (c : Closure) (f : Function) → Grows w w1 → block w c f → block w1 c f
 
 -- ---- records and frames
 
@@ -111,17 +109,21 @@ pub record IsFunction (h : Heap) (cs : List Code) (o : ℕ) (f : Function) : Typ
   pub there : at < length cs
   pub code : code_at cs at ≡ f.code
 
--- the function of a method's entry
+-- the function of a method's entry, which has stood for it since an earlier world
 pub record IsEntry (T : Scheme) (w : World) (e : Entry) (o : ℕ) : Type 0 where
   pub function : Function
   pub is : w.function o ≡ Some function
-  pub text : T.entry w e function
+  pub since : World
+  pub grown : Grows since w
+  pub text : T.entry since e function
 
 -- a proc: its function, and the self of the frame around its text
 pub record IsProc (T : Scheme) (w : World) (me : Value) (h : Heap) (c : Closure) (o : ℕ) : Type 0 where
   pub function : Function
   pub is : w.function o ≡ Some function
-  pub text : T.block w c function
+  pub since : World
+  pub grown : Grows since w
+  pub text : T.block since c function
   pub self : Val
   pub self_is : own_of h o self_name ≡ Some self
   pub self_value : IsValue w me self

@@ -6,3 +6,4 @@ pub mod Names
 pub mod World
 pub mod Holds
 pub mod Simulates
+pub mod Code
