@@ -60,7 +60,7 @@ pub record Began (w : World) (before : State) (s : es.State) (w1 : World) (st : 
 
 -- ---- the statement at a body's end
 
-reads_temp : {T : Scheme} {w : World} {st : State} {z : es.State} (e0 : EsExpr) (ρ : Scope) (t : ℕ) (u : values.Val) → e0.kind ≡ kind.Name (temp t) → Holds T w st z → Var w ρ.innermost (temp t) → value_of z ρ.innermost (temp t) ≡ Some u → Gives e0 ρ z 1 u z []
+pub reads_temp : {T : Scheme} {w : World} {st : State} {z : es.State} (e0 : EsExpr) (ρ : Scope) (t : ℕ) (u : values.Val) → e0.kind ≡ kind.Name (temp t) → Holds T w st z → Var w ρ.innermost (temp t) → value_of z ρ.innermost (temp t) ≡ Some u → Gives e0 ρ z 1 u z []
 reads_temp {z = z} e0 ρ t u named h var e = gives_name e0 (temp t) ρ z ρ.innermost u named (bound_is h.records.shapes ρ.innermost ρ.innermost (temp t) (var_binds var)) (ap (λ o. first o (λ x. find_own (record_at z.records ρ.innermost).constants (temp t))) e)
 
 -- `return t;` ends the call with the value of t

@@ -20,3 +20,4 @@ pub mod Functions
 pub mod Methods
 pub mod Blocks
 pub mod Parts
+pub mod Setting

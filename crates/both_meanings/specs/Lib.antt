@@ -7,3 +7,4 @@ pub mod World
 pub mod Holds
 pub mod Simulates
 pub mod Code
+pub mod Small

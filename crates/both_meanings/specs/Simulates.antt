@@ -118,5 +118,5 @@ Below None t = ⊤
 Below (Some l) t = l < t
 
 -- With at most d requests nested, each request is followed by what stands for it, from any pair of states.
-pub record Simulates (T : Scheme) (files : Files) (d : ℕ) : Type 1 where
+pub record Simulates (T : Scheme) (files : Files) (d : ℕ) : Type 0 where
   pub by : (a : ℕ) (site : Site) (t : ℕ) (q : Request) (u : Scope → task.Task) (w : World) (ρ : Scope) (st : State) (s : es.State) (g : ℕ) → g ≤ d → a ≤ 120 → Below site.loop t → T.texts.stands a site t q u → Here T w st.ruby (place_of q) ρ.innermost site → Holds T w st s → Follows (Carries T.called) st.calls g a (eval_to files d q st g) (u ρ) s (Good T w (place_of q) ρ.innermost site t st s)
