@@ -1,19 +1,13 @@
 -- Records that are alike in what a translation names hold as well as those before.
-use Rattle.std.proofs.Common.{◌≡◌, ◌⊎◌, inl, inr, ⊎_elim, ℕ, suc, ◌<◌, ◌≤◌, List, [], ◌∷◌, ◌++◌, length, Option, Some, None, refl, sym, ap, ◌∙◌, subst, arith}
+use Rattle.std.proofs.Common.{◌≡◌, List, [], ◌∷◌, ◌++◌, Some, refl, sym, ap, ◌∙◌, subst, arith}
 use Rattle.std.proofs.lemmas.List.{length-append}
-use Rattle.es5_tree.specs.Values.{Text, Val, first, find_own}
+use Rattle.es5_tree.specs.Values.{first, find_own}
 use Rattle.es5_evaluation.specs.State.{Activation, record_at, value_in}
-use Rattle.es5_evaluation.specs.State as es
-use Rattle.es5_evaluation.specs.Task.{with_record}
-use Rattle.ruby_evaluation.specs.Tables.{Name}
 use Rattle.ruby_evaluation.specs.State.{Ruby}
-use Rattle.ruby_evaluation.specs.Task.{State}
-use Rattle.both_meanings.specs.Names.{local, IsFrameName, Generated, is_local, is_frame}
+use Rattle.both_meanings.specs.Names.{local, is_local, is_frame}
 use Rattle.both_meanings.specs.World.{shape_of, World}
-use Rattle.both_meanings.specs.Holds.{Scheme, variable_at, RecordsHold, Holds}
-use Rattle.both_meanings.specs.Simulates.{KeptAll}
+use Rattle.both_meanings.specs.Holds.{variable_at, RecordsHold}
 use Rattle.both_meanings.specs.Code.{Alike}
-use Rattle.both_meanings.proofs.Records.{wrote, length_wrote, record_wrote, record_other, value_other, same_or_not}
 use Rattle.both_meanings.proofs.Entering.{record_kept}
 
 pub alike_refl : (rs : List Activation) → Alike rs rs
@@ -41,9 +35,9 @@ records_alike {rs = rs} {rs1 = rs1} h a = record {
         omega (arith, o.0, a.more),
         o.1,
         subst (λ y. value_in (record_at rs1 q) y ≡ Some u) (sym o.1.is)
-        (ap (λ z. first z (λ t. find_own (record_at rs1 q).constants (36 ∷ o.1.tail))) (a.values q (36 ∷ o.1.tail) o.0 (is_frame o.1.tail))
-        ∙ ap (λ z. first (variable_at rs q (36 ∷ o.1.tail)) (λ t. find_own z.constants (36 ∷ o.1.tail))) (a.shape q o.0)
-        ∙ subst (λ y. value_in (record_at rs q) y ≡ Some u) o.1.is o.2),
+            (ap (λ z. first z (λ t. find_own (record_at rs1 q).constants (36 ∷ o.1.tail))) (a.values q (36 ∷ o.1.tail) o.0 (is_frame o.1.tail))
+            ∙ ap (λ z. first (variable_at rs q (36 ∷ o.1.tail)) (λ t. find_own z.constants (36 ∷ o.1.tail))) (a.shape q o.0)
+            ∙ subst (λ y. value_in (record_at rs q) y ≡ Some u) o.1.is o.2),
       );
   frames = λ k f e.
       let o = h.frames k f e in
@@ -51,9 +45,14 @@ records_alike {rs = rs} {rs1 = rs1} h a = record {
       let within = (h.shapes.by f.record_at x.is.sh x.is.shape).0 in (
         o.0,
         record {
-          is = x.is; outer = x.outer; names = x.names;
+          is = x.is;
+          outer = x.outer;
+          names = x.names;
           values = λ y v i. let b = x.values y v i in (b.0, a.values f.record_at (local y) within (is_local y) ∙ b.1, b.2);
-          me = x.me; block = x.block; modules = x.modules; home = x.home;
+          me = x.me;
+          block = x.block;
+          modules = x.modules;
+          home = x.home;
         },
       );
   apart = h.apart;

@@ -1,55 +1,38 @@
 -- A call of a block that takes no parameters: the function that stands for it follows what Ruby's side does.
-use Rattle.std.proofs.Common.{◌≡◌, ◌⊎◌, inl, inr, ⊎_elim, ℕ, suc, ◌+◌, ◌<◌, ◌≤◌, ◌||◌, Bool, true, false, List, [], ◌∷◌, ◌++◌, length, map, Option, Some, None, refl, sym, ap, ◌∙◌, subst, arith, codes}
-use Rattle.std.specs.Prelude.{⊤, bytes_eq, is_some, nat_eq, if◌then◌else◌}
-use Rattle.std.proofs.lemmas.Slice.Eq.{bytes_eq-Decides}
-use Rattle.std.proofs.lemmas.List.{length-append}
+use Rattle.std.proofs.Common.{◌≡◌, ⊎_elim, ℕ, ◌<◌, ◌≤◌, true, false, [], ◌∷◌, length, Some, None, refl, sym, ap, ◌∙◌, subst, arith}
+use Rattle.std.specs.Prelude.{is_some}
 use Rattle.opal_base.specs.declared.place.Pos.{Pos}
-use Rattle.ruby_meaning.specs.declared.tree.Node.{Node}
-use Rattle.ruby_meaning.specs.declared.tree.Params.{Params, out-Params}
-use Rattle.ruby_meaning.specs.declared.tree.Rest.TheVariants as rest
+use Rattle.ruby_meaning.specs.declared.tree.Params.{out-Params}
 use Rattle.ruby_meaning.specs.declared.value.Value.{Value}
 use Rattle.ruby_meaning.specs.declared.value.Value.TheVariants as value
-use Rattle.es5_tree.specs.declared.tree.EsExpr.{EsExpr}
-use Rattle.es5_tree.specs.declared.tree.EsKind.TheVariants as kind
-use Rattle.es5_tree.specs.declared.tree.EsStmt.{EsStmt}
-use Rattle.es5_tree.specs.declared.tree.EsStmt.TheVariants as stmt
 use Rattle.es5_tree.specs.Values.{Text, Obj, first, find_own}
 use Rattle.es5_tree.specs.Values as values
 use Rattle.es5_evaluation.specs.State.{Code, Activation, record_at, value_in, with_variable, binding}
 use Rattle.es5_evaluation.specs.State as es
-use Rattle.es5_evaluation.specs.Task.{Scope, Throw, with_record}
-use Rattle.es5_evaluation.specs.Declared.{own_code, locals}
-use Rattle.es5_evaluation.specs.Evaluate.{activation, all, own_name, bound_params, invoke, left, undefined_variables}
-use Rattle.es5_rules.specs.Steps.{Steps, Gives}
-use Rattle.es5_rules.proofs.Steps.{steps_trans, steps_from, steps_count}
-use Rattle.es5_rules.proofs.Expressions.{gives_name, gives_this}
-use Rattle.ruby_evaluation.specs.Tables.{Name, at, put_at}
-use Rattle.ruby_evaluation.specs.State.{Closure, EndsCall, Form, Block, Frame, Ruby, thing_at, frame_at, with_new_frame, closed}
-use Rattle.ruby_evaluation.specs.Ancestors.{find}
+use Rattle.es5_evaluation.specs.Task.{Throw}
+use Rattle.es5_evaluation.specs.Declared.{locals}
+use Rattle.es5_evaluation.specs.Evaluate.{invoke}
+use Rattle.ruby_evaluation.specs.Tables.{Name, at}
+use Rattle.ruby_evaluation.specs.State.{Closure, EndsCall, Block, Frame, Ruby, thing_at, frame_at, with_new_frame, closed}
 use Rattle.ruby_evaluation.specs.Locals.{Declared, all_nil, own_of_block}
 use Rattle.ruby_evaluation.specs.Parameters.{Parts, is_wide, spread_one, bind}
-use Rattle.ruby_evaluation.specs.Calls.{in_block, block_frame, block_end, in_call, run_closure, call_form, call_proc}
+use Rattle.ruby_evaluation.specs.Calls.{in_block, block_frame, block_end, run_closure, call_form, call_proc}
 use Rattle.ruby_evaluation.specs.Task.{Return, Raise, Break, Next, Result, Val, Leaves, Jump, Place, Evaluate, Task, Look, Change, ◌>>=◌, State, changed, walk, run_node}
 use Rattle.ruby_evaluation.specs.Task as ruby
 use Rattle.ruby_evaluation.specs.Requires.{Files}
 use Rattle.ruby_evaluation.specs.Run.{eval_to}
-use Rattle.both_meanings.specs.Names.{temp, local, module_name, self_name, block_name, home_name, IsFrameName}
-use Rattle.both_meanings.specs.World.{Shape, shape_of, stands, bound_in, Function, Framed, Target, OfFrame, Token, Carrier, World, Grows, IsValue, is_nil, Var, Sees, SeesModule, SeesModules, Behind, next, SeesLocal, own_local, outer_local, SeesHome}
-use Rattle.both_meanings.specs.Carries.{Carries, IsPlain, method_name, get_from}
+use Rattle.both_meanings.specs.Names.{module_name, block_name, home_name}
+use Rattle.both_meanings.specs.World.{Shape, stands, bound_in, Function, World, Grows, IsValue, Sees, SeesModules, Behind, next, own_local, outer_local, SeesHome}
+use Rattle.both_meanings.specs.Carries.{Carries}
 use Rattle.both_meanings.specs.Follows.{Follows}
-use Rattle.both_meanings.specs.Holds.{Site, Texts, Scheme, FrameHolds, Holds}
-use Rattle.both_meanings.specs.Simulates.{Here, KeptAll, Later, Answers, a_value, a_raise, a_return, a_break, Called, Simulates}
-use Rattle.both_meanings.specs.Code.{no_parts, IsText, IsBlock}
-use Rattle.both_meanings.proofs.Bind.{follows_quiet, follows_outcome}
+use Rattle.both_meanings.specs.Holds.{Site, Scheme, FrameHolds, Holds}
+use Rattle.both_meanings.specs.Simulates.{Answers, a_raise, a_return, a_break, Called, Simulates}
+use Rattle.both_meanings.specs.Code.{no_parts, IsBlock}
+use Rattle.both_meanings.proofs.Bind.{follows_outcome}
 use Rattle.both_meanings.proofs.Growing.{value_grows, sees_grows, modules_grow, home_grows, sees_local_grows}
-use Rattle.both_meanings.proofs.NamesDiffer.{frame_name, local_temp}
-use Rattle.both_meanings.proofs.Records.{true_or_false, bound_is}
-use Rattle.both_meanings.proofs.Holding.{NoToken}
-use Rattle.both_meanings.proofs.Entering.{chosen, passed, some_same, record_kept, frame_new, entered, entered_grows, entered_later, entered_holds, entered_shapes, sees_around, modules_around, home_around}
+use Rattle.both_meanings.proofs.Entering.{chosen, some_same, sees_around, modules_around, home_around}
 use Rattle.both_meanings.proofs.Bodies.{Finishes}
-use Rattle.both_meanings.proofs.Functions.{FrameRest, f, sh1, w2, grows2, shaped2, outer2, scope_below, free2, sees_first, function_follows}
-use Rattle.both_meanings.proofs.Starting.{Prepared, prepares, enters_function, last_at}
-
+use Rattle.both_meanings.proofs.Functions.{FrameRest, f, sh1, w2, grows2, shaped2, outer2, scope_below, free2, function_follows}
 
 true_false : true ≡ false → ⊥
 true_false e = cc

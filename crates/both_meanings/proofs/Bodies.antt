@@ -1,6 +1,5 @@
 -- The body of a method or of a block: its statements follow the evaluation of its text in its frame, and what ends it is the answer of the call.
-use Rattle.std.proofs.Common.{◌≡◌, ◌⊎◌, inl, inr, ⊎_elim, ℕ, suc, ◌+◌, ◌<◌, ◌≤◌, Bool, true, false, List, [], ◌∷◌, ◌++◌, length, Option, Some, None, refl, sym, ap, ◌∙◌, subst, arith}
-use Rattle.std.specs.Prelude.{nat_eq, if◌then◌else◌}
+use Rattle.std.proofs.Common.{◌≡◌, inl, ℕ, ◌+◌, ◌<◌, ◌≤◌, true, List, [], ◌∷◌, ◌++◌, length, Some, None, sym, ap, ◌∙◌, subst, arith}
 use Rattle.ruby_meaning.specs.declared.tree.Node.{Node}
 use Rattle.ruby_meaning.specs.declared.value.Value.{Value}
 use Rattle.es5_tree.specs.declared.tree.EsExpr.{EsExpr}
@@ -13,24 +12,23 @@ use Rattle.es5_evaluation.specs.State.{record_at}
 use Rattle.es5_evaluation.specs.State as es
 use Rattle.es5_evaluation.specs.Task.{Completion, Normal, Throw, Scope, ◌>>=◌, Done}
 use Rattle.es5_evaluation.specs.Task as task
-use Rattle.es5_evaluation.specs.Evaluate.{all, left, normally}
-use Rattle.es5_evaluation.proofs.Tasks.{all_both, all_first, and_all, then_assoc, done_then}
-use Rattle.es5_rules.specs.Steps.{Steps, Gives, Does}
-use Rattle.es5_rules.proofs.Steps.{steps_refl, steps_trans, steps_from, steps_to, steps_count}
+use Rattle.es5_evaluation.specs.Evaluate.{all, left}
+use Rattle.es5_evaluation.proofs.Tasks.{all_both, all_first, and_all, then_assoc}
+use Rattle.es5_rules.specs.Steps.{Steps, Gives}
+use Rattle.es5_rules.proofs.Steps.{steps_refl, steps_from}
 use Rattle.es5_rules.proofs.Expressions.{gives_name}
 use Rattle.es5_rules.proofs.Statements.{does_return}
-use Rattle.ruby_evaluation.specs.State.{Ruby, frame_at, closed}
+use Rattle.ruby_evaluation.specs.State.{closed}
 use Rattle.ruby_evaluation.specs.Task.{Jump, BreakLoop, Next, Return, Raise, Result, Val, Leaves, Place, Evaluate, Task, Change, State, Outcome, Ends, Eval, changed, walk, run_node}
 use Rattle.ruby_evaluation.specs.Task as ruby
-use Rattle.ruby_evaluation.specs.Calls.{in_frame, in_block, method_end, block_end}
 use Rattle.ruby_evaluation.specs.Requires.{Files}
 use Rattle.ruby_evaluation.specs.Run.{eval_to}
 use Rattle.both_meanings.specs.Names.{temp}
-use Rattle.both_meanings.specs.World.{Target, OfFrame, OfCall, Token, Carrier, Listed, World, IsValue, Var}
+use Rattle.both_meanings.specs.World.{OfFrame, Listed, World, Var}
 use Rattle.both_meanings.specs.Carries.{Carries}
-use Rattle.both_meanings.specs.Follows.{Post, Follows}
+use Rattle.both_meanings.specs.Follows.{Follows}
 use Rattle.both_meanings.specs.Holds.{Site, Scheme, value_of, Holds}
-use Rattle.both_meanings.specs.Simulates.{Here, RecordsStay, Kept, KeptAll, Later, Answers, a_value, a_raise, a_return, a_break, Matches, m_value, m_thrown, m_break, m_continue, m_next, m_return, Good, Called, Below, Simulates}
+use Rattle.both_meanings.specs.Simulates.{Here, RecordsStay, KeptAll, Later, Answers, a_value, Matches, m_value, m_thrown, m_break, m_continue, m_next, m_return, Good, Called, Below, Simulates}
 use Rattle.both_meanings.proofs.Meeting.{met_none}
 use Rattle.both_meanings.proofs.Bind.{after, follows_end, follows_task, follows_then}
 use Rattle.both_meanings.proofs.Growing.{var_grows}

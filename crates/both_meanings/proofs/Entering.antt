@@ -1,20 +1,17 @@
 -- A function is entered: the world grows by its record, and by the frame that Ruby's side has then.
-use Rattle.std.proofs.Common.{◌≡◌, ◌⊎◌, inl, inr, ⊎_elim, ℕ, suc, ◌<◌, ◌≤◌, Bool, true, false, if◌then◌else◌, List, [], ◌∷◌, ◌++◌, length, Option, Some, None, refl, sym, ap, ◌∙◌, subst, arith}
+use Rattle.std.proofs.Common.{◌≡◌, ⊎_elim, ℕ, suc, ◌<◌, Bool, true, false, if◌then◌else◌, List, [], ◌∷◌, ◌++◌, length, Option, Some, None, refl, sym, ap, ◌∙◌, subst, arith}
 use Rattle.std.specs.Prelude.{◌==◌}
 use Rattle.std.proofs.lemmas.Bool.{eq-eqb, eqb-true}
 use Rattle.std.proofs.lemmas.List.{length-append, get_or_append_left, get_or_push}
-use Rattle.ruby_meaning.specs.declared.value.Value.{Value}
 use Rattle.es5_tree.specs.Values.{Text, Val, Truth, Obj, find_own}
 use Rattle.es5_evaluation.specs.State.{Activation, record_at, value_in}
 use Rattle.es5_evaluation.specs.State as es
 use Rattle.es5_evaluation.specs.Task.{with_record}
-use Rattle.ruby_evaluation.specs.Tables.{Name, at}
 use Rattle.ruby_evaluation.specs.State.{Method, Frame, Ruby, frame_at, with_new_frame, no_frame}
 use Rattle.ruby_evaluation.specs.Task.{State, changed}
 use Rattle.both_meanings.specs.Names.{local, home_name, module_name, IsFrameName}
-use Rattle.both_meanings.specs.Carries.{Heap}
-use Rattle.both_meanings.specs.World.{Shape, shape_of, Framed, Target, OfFrame, OfCall, Role, Token, Carrier, Listed, World, Grows, IsValue, bound_in, bound_around, Sees, SeesModule, SeesModules, SeesHome}
-use Rattle.both_meanings.specs.Holds.{Scheme, Shapes, IsTarget, Serves, variable_at, FrameHolds, RecordsHold, ObjectsHold, IsProc, Holds}
+use Rattle.both_meanings.specs.World.{Shape, shape_of, Framed, OfFrame, OfCall, Role, Token, Carrier, Listed, World, Grows, IsValue, bound_in, bound_around, Sees, SeesModule, SeesModules, SeesHome}
+use Rattle.both_meanings.specs.Holds.{Scheme, Shapes, Serves, FrameHolds, ObjectsHold, Holds}
 use Rattle.both_meanings.specs.Simulates.{Later}
 use Rattle.both_meanings.proofs.Growing.{grows_trans, value_grows, sees_grows, modules_grow, home_grows, frame_is_grows, is_entry_grows}
 use Rattle.both_meanings.proofs.Records.{same_or_not}
@@ -152,7 +149,8 @@ module _ {T : Scheme} {w : World} {st : State} {s : es.State} (h : Holds T w st 
           omega (arith, o.0, more_frames),
           subst (λ y. FrameHolds w1 rs1 j g y) (sym (frame_kept st.ruby fr j o.0)) (record {
             is = frame_is_grows gr j g x.is;
-            outer = x.outer; names = x.names;
+            outer = x.outer;
+            names = x.names;
             values = λ y v i. let b = x.values y v i in (b.0, ap (λ z. find_own z.variables (local y)) (record_kept s.records a g.record_at within) ∙ b.1, value_grows gr v b.0 b.2);
             me = (x.me.0, sees_grows gr g.record_at _ x.me.0 x.me.1, value_grows gr _ x.me.0 x.me.2);
             block = (x.block.0, sees_grows gr g.record_at _ x.block.0 x.block.1, value_grows gr _ x.block.0 x.block.2);
@@ -217,7 +215,13 @@ module _ {T : Scheme} {w : World} {st : State} {s : es.State} (h : Holds T w st 
               let q = p.1 in (
                 omega (arith, p.0, more_frames),
                 record {
-                  function = q.function; is = q.is; since = q.since; grown = grows_trans q.grown gr; text = q.text; self = q.self; self_is = q.self_is;
+                  function = q.function;
+                  is = q.is;
+                  since = q.since;
+                  grown = grows_trans q.grown gr;
+                  text = q.text;
+                  self = q.self;
+                  self_is = q.self_is;
                   self_value = subst (λ y. IsValue w1 y.me q.self) (sym (frame_kept st.ruby fr c.frame p.0)) (value_grows gr _ q.self q.self_value);
                 },
               );

@@ -1,8 +1,7 @@
 -- What is found under a method's name along the links of a value is the function of the entry that Ruby's search finds.
-use Rattle.std.proofs.Common.{◌≡◌, ◌⊎◌, ⊎_elim, ℕ, true, false, List, [], ◌∷◌, Option, Some, None, refl, sym, ap, ◌∙◌, subst}
+use Rattle.std.proofs.Common.{◌≡◌, ℕ, List, [], ◌∷◌, Option, Some, None, refl, sym, ap, ◌∙◌, subst}
 use Rattle.std.specs.List.{filter_map, cons_option}
 use Rattle.ruby_meaning.specs.declared.value.Value.{Value}
-use Rattle.ruby_meaning.specs.declared.value.Value.TheVariants as value
 use Rattle.es5_tree.specs.Values.{Val, Obj}
 use Rattle.es5_tree.specs.Objects.Links.{chain}
 use Rattle.es5_evaluation.specs.State as es

@@ -1,12 +1,10 @@
 -- A function that stands for a text of Ruby's, with one parameter: it follows the evaluation of the text in a frame of its own.
-use Rattle.std.proofs.Common.{◌≡◌, ◌⊎◌, inl, inr, ⊎_elim, ℕ, suc, ◌+◌, ◌<◌, ◌≤◌, ◌||◌, Bool, true, false, List, [], ◌∷◌, ◌++◌, length, map, Option, Some, None, refl, sym, ap, ◌∙◌, subst, arith, codes}
-use Rattle.std.specs.Prelude.{⊤, bytes_eq, is_some, nat_eq, if◌then◌else◌}
+use Rattle.std.proofs.Common.{◌≡◌, ⊎_elim, ℕ, ◌+◌, ◌<◌, ◌≤◌, ◌||◌, Bool, true, false, List, [], ◌∷◌, ◌++◌, length, map, Option, Some, None, refl, sym, ap, ◌∙◌, subst, arith}
+use Rattle.std.specs.Prelude.{⊤, bytes_eq, is_some, if◌then◌else◌}
 use Rattle.std.proofs.lemmas.Slice.Eq.{bytes_eq-Decides}
 use Rattle.std.proofs.lemmas.List.{length-append}
 use Rattle.opal_base.specs.declared.place.Pos.{Pos}
 use Rattle.ruby_meaning.specs.declared.tree.Node.{Node}
-use Rattle.ruby_meaning.specs.declared.tree.Params.{Params, out-Params}
-use Rattle.ruby_meaning.specs.declared.tree.Rest.TheVariants as rest
 use Rattle.ruby_meaning.specs.declared.value.Value.{Value}
 use Rattle.ruby_meaning.specs.declared.value.Value.TheVariants as value
 use Rattle.es5_tree.specs.declared.tree.EsExpr.{EsExpr}
@@ -17,38 +15,34 @@ use Rattle.es5_tree.specs.Values.{Text, Obj, find_own}
 use Rattle.es5_tree.specs.Values as values
 use Rattle.es5_evaluation.specs.State.{Code, Activation, record_at, value_in, with_variable, binding}
 use Rattle.es5_evaluation.specs.State as es
-use Rattle.es5_evaluation.specs.Task.{Scope, Throw, ◌>>=◌, with_record}
-use Rattle.es5_evaluation.specs.Declared.{own_code, locals}
+use Rattle.es5_evaluation.specs.Task.{Scope, ◌>>=◌, with_record}
+use Rattle.es5_evaluation.specs.Declared.{locals}
 use Rattle.es5_evaluation.specs.Evaluate.{activation, all, own_name, bound_params, invoke, left, undefined_variables}
-use Rattle.es5_rules.specs.Steps.{Steps, Gives}
-use Rattle.es5_rules.proofs.Steps.{steps_trans, steps_from, steps_count}
-use Rattle.es5_rules.proofs.Expressions.{gives_name, gives_this}
+use Rattle.es5_rules.specs.Steps.{Gives}
+use Rattle.es5_rules.proofs.Steps.{steps_trans, steps_from}
+use Rattle.es5_rules.proofs.Expressions.{gives_name}
 use Rattle.ruby_evaluation.specs.Tables.{Name, at, put_at}
-use Rattle.ruby_evaluation.specs.State.{Method, Entry, Def, Frame, Ruby, frame_at, with_new_frame, closed}
-use Rattle.ruby_evaluation.specs.Ancestors.{find}
+use Rattle.ruby_evaluation.specs.State.{Frame, frame_at, with_new_frame, closed}
 use Rattle.ruby_evaluation.specs.Locals.{Declared, all_nil}
-use Rattle.ruby_evaluation.specs.Parameters.{Parts, takes, expected, wrong_number, bind}
-use Rattle.ruby_evaluation.specs.Calls.{in_frame, method_frame, method_end, own_of_method, in_method, enter, enter_new, call_method, found}
 use Rattle.ruby_evaluation.specs.Task.{Return, Raise, Break, Next, Result, Val, Leaves, Jump, Place, Evaluate, Task, Look, Change, State, changed, walk, run_node}
 use Rattle.ruby_evaluation.specs.Task as ruby
 use Rattle.ruby_evaluation.specs.Requires.{Files}
 use Rattle.ruby_evaluation.specs.Run.{eval_to}
-use Rattle.both_meanings.specs.Names.{temp, local, module_name, self_name, block_name, home_name, IsFrameName}
-use Rattle.both_meanings.specs.World.{Shape, shape_of, stands, bound_in, Function, Framed, Target, OfFrame, Token, Carrier, World, Grows, IsValue, is_nil, Var, Sees, SeesModule, SeesModules, FrameIs, Behind, SeesLocal, SeesHome, bound_here, bound_around}
-use Rattle.both_meanings.specs.Carries.{Carries, IsPlain, method_name, get_from}
+use Rattle.both_meanings.specs.Names.{temp, local, self_name, block_name, IsFrameName}
+use Rattle.both_meanings.specs.World.{Shape, shape_of, stands, bound_in, Function, Framed, OfFrame, Token, World, Grows, IsValue, is_nil, Sees, SeesModules, FrameIs, Behind, SeesLocal, SeesHome, bound_here, bound_around}
+use Rattle.both_meanings.specs.Carries.{Carries}
 use Rattle.both_meanings.specs.Follows.{Follows}
-use Rattle.both_meanings.specs.Holds.{Site, Texts, Scheme, FrameHolds, Holds}
-use Rattle.both_meanings.specs.Simulates.{Here, KeptAll, Later, Answers, a_value, a_raise, a_return, a_break, Called, Simulates}
-use Rattle.both_meanings.specs.Code.{Prelude, IsText}
-use Rattle.both_meanings.proofs.Bind.{follows_quiet, follows_outcome}
-use Rattle.both_meanings.proofs.Growing.{value_grows, sees_grows, modules_grow, module_grows, binds_grows}
-use Rattle.both_meanings.proofs.NamesDiffer.{frame_name, local_temp, no_temp, no_local}
+use Rattle.both_meanings.specs.Holds.{Scheme, FrameHolds, Holds}
+use Rattle.both_meanings.specs.Simulates.{Here, Called, Simulates}
+use Rattle.both_meanings.specs.Code.{IsText}
+use Rattle.both_meanings.proofs.Bind.{follows_quiet}
+use Rattle.both_meanings.proofs.Growing.{value_grows, sees_grows, binds_grows}
+use Rattle.both_meanings.proofs.NamesDiffer.{frame_name, no_local}
 use Rattle.both_meanings.proofs.Records.{true_or_false, bound_is}
 use Rattle.both_meanings.proofs.Holding.{NoToken}
-use Rattle.both_meanings.proofs.Entering.{chosen, passed, some_same, record_kept, frame_new, entered, entered_grows, entered_later, entered_holds, entered_shapes, sees_around, module_around, modules_around}
+use Rattle.both_meanings.proofs.Entering.{chosen, some_same, record_kept, frame_new, entered, entered_grows, entered_later, entered_holds, entered_shapes, sees_around}
 use Rattle.both_meanings.proofs.Bodies.{Finishes, Began, body_follows}
 use Rattle.both_meanings.proofs.Starting.{Prepared, prepares, enters_function, last_at}
-
 
 -- ---- locals at first
 

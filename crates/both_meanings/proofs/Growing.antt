@@ -3,7 +3,7 @@ use Rattle.std.proofs.Common.{◌≡◌, ◌∙◌, ℕ, List, [], ◌∷◌, le
 use Rattle.ruby_meaning.specs.declared.value.Value.{Value}
 use Rattle.es5_tree.specs.Values.{Text, Val, Obj}
 use Rattle.ruby_evaluation.specs.Tables.{Name}
-use Rattle.ruby_evaluation.specs.State.{Entry, Closure, Method, Ruby, frame_at}
+use Rattle.ruby_evaluation.specs.State.{Entry, Method, Ruby, frame_at}
 use Rattle.ruby_evaluation.specs.Task.{Result, Place}
 use Rattle.es5_evaluation.specs.Task.{Completion}
 use Rattle.both_meanings.specs.Names.{temp, home_name, module_name}

@@ -1,20 +1,20 @@
 -- What the steps of both sides leave of how their states stand to each other.
-use Rattle.std.proofs.Common.{◌≡◌, ◌⊎◌, inl, inr, ⊎_elim, ℕ, zero, suc, ◌<◌, ◌≤◌, Bool, true, false, List, [], ◌∷◌, ◌++◌, length, Option, None, Some, refl, sym, ap, ◌∙◌, subst, arith}
+use Rattle.std.proofs.Common.{◌≡◌, ⊎_elim, ℕ, ◌<◌, ◌≤◌, false, List, [], ◌∷◌, length, Some, refl, sym, ap, ◌∙◌, subst, arith}
 use Rattle.std.proofs.lemmas.List.{length-set, get_or-set_same, get_or-set_other}
 use Rattle.es5_tree.specs.Values.{Text, Val, Truth}
-use Rattle.opal_base.specs.Shown.{HostCall, Wrote}
+use Rattle.opal_base.specs.Shown.{Wrote}
 use Rattle.es5_evaluation.specs.State.{Activation}
 use Rattle.es5_evaluation.specs.State as es
 use Rattle.es5_evaluation.specs.Task.{printed}
 use Rattle.ruby_evaluation.specs.Tables.{Name}
-use Rattle.ruby_evaluation.specs.State.{Thing, Ruby, Frame, thing_at, frame_at, with_frame, closed, no_frame}
+use Rattle.ruby_evaluation.specs.State.{Thing, Ruby, Frame, frame_at, closed, no_frame}
 use Rattle.ruby_evaluation.specs.Task.{State, changed, noted}
 use Rattle.both_meanings.specs.Names.{temp, local}
 use Rattle.both_meanings.specs.Carries.{Heap, CarriesHeap}
-use Rattle.both_meanings.specs.World.{Framed, Target, OfFrame, OfCall, Role, Token, Carrier, Listed, World, Var}
-use Rattle.both_meanings.specs.Holds.{Scheme, IsTarget, Serves, value_of, variable_at, FrameHolds, RecordsHold, IsProc, ObjectsHold, Holds}
+use Rattle.both_meanings.specs.World.{OfFrame, OfCall, Role, Token, Carrier, Listed, World, Var}
+use Rattle.both_meanings.specs.Holds.{Scheme, Serves, FrameHolds, RecordsHold, IsProc, ObjectsHold, Holds}
 use Rattle.both_meanings.specs.Simulates.{Kept}
-use Rattle.both_meanings.proofs.NamesDiffer.{temps_differ, local_temp, no_temp, no_local}
+use Rattle.both_meanings.proofs.NamesDiffer.{temps_differ, local_temp, no_temp}
 use Rattle.both_meanings.proofs.Records.{wrote, var_within, same_or_not, shapes_wrote, length_wrote, value_other, value_elsewhere, in_other}
 
 -- ---- only the heap of Ruby's side counts for what carries it
@@ -65,9 +65,14 @@ records_temp w r s q n v h i = record {
       let g = h.frames k f e in (
         g.0,
         record {
-          is = g.1.is; outer = g.1.outer; names = g.1.names;
+          is = g.1.is;
+          outer = g.1.outer;
+          names = g.1.names;
           values = λ x y j. let a = g.1.values x y j in (a.0, value_other s q f.record_at (temp n) v (local x) (var_within h.shapes q (temp n) i) (λ k. local_temp x n (sym k)) ∙ a.1, a.2);
-          me = g.1.me; block = g.1.block; modules = g.1.modules; home = g.1.home;
+          me = g.1.me;
+          block = g.1.block;
+          modules = g.1.modules;
+          home = g.1.home;
         },
       );
   apart = h.apart;

@@ -1,34 +1,31 @@
 -- A jump to the token of a call ends there, and any other result goes on; the token is closed.
-use Rattle.std.proofs.Common.{◌≡◌, ◌⊎◌, inl, inr, ⊎_elim, ℕ, zero, suc, ◌+◌, ◌<◌, ◌≤◌, Bool, true, false, List, [], ◌∷◌, ◌++◌, length, Option, Some, None, refl, sym, ap, ◌∙◌, subst, arith}
-use Rattle.std.specs.Prelude.{nat_eq, if◌then◌else◌}
+use Rattle.std.proofs.Common.{◌≡◌, ⊎_elim, ℕ, zero, suc, ◌+◌, ◌<◌, false, length, Some, None, refl, sym, ap, ◌∙◌, subst, arith}
 use Rattle.std.proofs.lemmas.List.{length-set}
 use Rattle.es5_tree.specs.Values.{Text, Truth, Obj, first, find_own}
 use Rattle.es5_tree.specs.Values as values
-use Rattle.es5_tree.specs.Objects.Cells.{put, own}
-use Rattle.es5_tree.specs.Objects.Cells as cell
-use Rattle.es5_tree.specs.Objects.Links.{cell_at, set_cell, link_at, first_of_chain, chain, first_own, get}
+use Rattle.es5_tree.specs.Objects.Cells.{put}
+use Rattle.es5_tree.specs.Objects.Links.{cell_at, link_at, first_of_chain, chain, first_own, get}
 use Rattle.es5_evaluation.specs.State.{Activation, record_at}
 use Rattle.es5_evaluation.specs.State as es
 use Rattle.es5_evaluation.specs.Task.{Completion, Normal, Throw, Done, ◌>>=◌, with_object}
 use Rattle.es5_evaluation.specs.Task as task
-use Rattle.es5_rules.specs.Steps.{Steps}
-use Rattle.ruby_evaluation.specs.State.{Ruby, call_closed}
+use Rattle.ruby_evaluation.specs.State.{call_closed}
 use Rattle.ruby_evaluation.specs.Task.{Jump, Break, Return, Raise, Result, Val, Leaves, Task, Change, Eval, State, Outcome, Ends, andthen, changed, walk}
 use Rattle.ruby_evaluation.specs.Task as ruby
 use Rattle.ruby_evaluation.specs.Calls.{break_here, with_literal}
 use Rattle.ruby_evaluation.proofs.Walks.{walk_then}
-use Rattle.both_meanings.specs.Names.{temp, Generated, is_temp}
+use Rattle.both_meanings.specs.Names.{temp}
 use Rattle.both_meanings.specs.Carries.{Heap, Carries, own_of}
-use Rattle.both_meanings.specs.World.{shape_of, Target, OfFrame, OfCall, Role, Token, Carrier, Listed, World, IsValue}
+use Rattle.both_meanings.specs.World.{Target, OfFrame, OfCall, Token, Carrier, Listed, World}
 use Rattle.both_meanings.specs.Follows.{Follows}
-use Rattle.both_meanings.specs.Holds.{Scheme, open_name, token_name, value_name, variable_at, Holds}
+use Rattle.both_meanings.specs.Holds.{Scheme, open_name, token_name, value_name, Holds}
 use Rattle.both_meanings.specs.Simulates.{RecordsStay, KeptAll, Later, Answers, a_value, a_raise, a_return, a_break, Called}
-use Rattle.both_meanings.specs.Code.{Alike, closed_with, Since, Closes, Lands}
+use Rattle.both_meanings.specs.Code.{closed_with, Since, Closes, Lands}
 use Rattle.both_meanings.proofs.Meeting.{met_none}
 use Rattle.both_meanings.proofs.Bind.{after, follows_then, follows_end, follows_outcome}
 use Rattle.both_meanings.proofs.Records.{same_or_not}
 use Rattle.both_meanings.proofs.Entering.{chosen, passed}
-use Rattle.both_meanings.proofs.Laters.{later_trans, later_ruby, stay_trans, kept_all_trans}
+use Rattle.both_meanings.proofs.Laters.{later_trans, later_ruby}
 use Rattle.both_meanings.proofs.Alike.{records_alike}
 use Rattle.both_meanings.proofs.Tokens.{holds_call_closed, cell_other}
 

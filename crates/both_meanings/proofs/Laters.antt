@@ -1,11 +1,11 @@
 -- What parts of a run leave, one after the other.
-use Rattle.std.proofs.Common.{◌≡◌, ℕ, ◌<◌, ◌≤◌, length, Some, refl, sym, ap, ◌∙◌, arith, List}
+use Rattle.std.proofs.Common.{◌≡◌, ℕ, ◌<◌, ◌≤◌, length, Some, refl, ap, ◌∙◌, arith, List}
 use Rattle.es5_evaluation.specs.State.{Activation}
 use Rattle.es5_evaluation.specs.State as es
 use Rattle.ruby_evaluation.specs.State.{Ruby, frame_at}
-use Rattle.both_meanings.specs.World.{Target, OfFrame, OfCall, Token, Listed, World}
+use Rattle.both_meanings.specs.World.{Target, OfFrame, OfCall, Listed, World}
 use Rattle.both_meanings.specs.Holds.{IsTarget}
-use Rattle.both_meanings.specs.Simulates.{RecordsStay, Kept, KeptAll, Later}
+use Rattle.both_meanings.specs.Simulates.{RecordsStay, KeptAll, Later}
 use Rattle.both_meanings.proofs.Growing.{grows_refl, grows_trans}
 
 pub later_refl : (w : World) (r : Ruby) → Later w r w r

@@ -21,3 +21,4 @@ pub mod Methods
 pub mod Blocks
 pub mod Parts
 pub mod Setting
+pub mod SmallLaws

@@ -1,11 +1,10 @@
 -- Names of different kinds differ, and so do those of different numbers or locals.
-use Rattle.std.proofs.Common.{◌≡◌, ◌⊎◌, inl, inr, ⊎_elim, ℕ, zero, suc, ◌+◌, ◌*◌, ◌/◌, ◌%◌, ◌<◌, ◌≤◌, Bool, true, false, List, [], ◌∷◌, ◌++◌, refl, sym, ap, ◌∙◌, subst, arith, codes}
-use Rattle.std.specs.List.{flat_map}
+use Rattle.std.proofs.Common.{◌≡◌, ℕ, List, ◌∷◌, sym, ap, ◌∙◌, arith}
 use Rattle.es5_tree.specs.Values.{Text}
 use Rattle.es5_tree.specs.Objects.Names.{decimal, number_of}
 use Rattle.es5_tree.proofs.ObjectProperties.{number_decimal}
 use Rattle.ruby_evaluation.specs.Tables.{Name}
-use Rattle.both_meanings.specs.Names.{temp, local, is_plain, hex, spelled, IsFrameName}
+use Rattle.both_meanings.specs.Names.{temp, local, IsFrameName}
 
 pub tail_same : (a b : ℕ) (x y : List ℕ) → a ∷ b ∷ x ≡ a ∷ b ∷ y → x ≡ y
 tail_same a b x y e = cc

@@ -1,9 +1,7 @@
 -- A part of a node, and what comes behind its value; a statement that puts a value into the node's temporary.
-use Rattle.std.proofs.Common.{◌≡◌, ◌⊎◌, inl, inr, ⊎_elim, ℕ, zero, suc, ◌+◌, ◌*◌, ◌<◌, ◌≤◌, true, List, [], ◌∷◌, ◌++◌, length, Option, Some, None, refl, sym, ap, ◌∙◌, subst, arith, codes}
-use Rattle.ruby_meaning.specs.declared.tree.Node.{Node}
+use Rattle.std.proofs.Common.{◌≡◌, ◌⊎◌, inl, inr, ℕ, zero, suc, ◌+◌, ◌<◌, ◌≤◌, List, [], ◌∷◌, ◌++◌, length, Option, Some, None, refl, ap, ◌∙◌, subst, arith, codes}
 use Rattle.ruby_meaning.specs.declared.value.Value.{Value}
 use Rattle.es5_tree.specs.declared.tree.EsExpr.{EsExpr}
-use Rattle.es5_tree.specs.declared.tree.EsKind.TheVariants as kind
 use Rattle.es5_tree.specs.declared.tree.EsStmt.{EsStmt}
 use Rattle.es5_tree.specs.declared.tree.EsStmt.TheVariants as stmt
 use Rattle.opal_base.specs.declared.place.Pos.{Pos}
@@ -16,11 +14,10 @@ use Rattle.es5_evaluation.specs.Task as task
 use Rattle.es5_evaluation.specs.Evaluate.{all, normally, nothing, referred, type_error, write_place}
 use Rattle.es5_evaluation.proofs.Nodes as node
 use Rattle.es5_evaluation.proofs.Tasks.{all_both, all_first, all_none, and_all}
-use Rattle.es5_rules.specs.Steps.{Steps, Gives, DoesAll}
-use Rattle.es5_rules.proofs.Steps.{steps_refl, steps_from, steps_to, steps_count, steps_begin, steps_trans}
+use Rattle.es5_rules.specs.Steps.{Steps, Gives}
+use Rattle.es5_rules.proofs.Steps.{steps_refl, steps_from, steps_count, steps_begin, steps_trans}
 use Rattle.es5_rules.proofs.Expressions.{places_name, steps_write}
-use Rattle.es5_rules.proofs.Statements.{does_expr}
-use Rattle.ruby_evaluation.specs.State.{Ruby, frame_at}
+use Rattle.ruby_evaluation.specs.State.{Ruby}
 use Rattle.ruby_evaluation.specs.Task.{BreakLoop, Next, Return, Result, Val, Leaves, Jump, Place, Request, Task, Eval, State, Outcome, Ends, Starved, andthen, walk, onval}
 use Rattle.ruby_evaluation.specs.Task as ruby
 use Rattle.ruby_evaluation.specs.Requires.{Files}
@@ -30,16 +27,16 @@ use Rattle.both_meanings.specs.Agree.{Relation}
 use Rattle.both_meanings.specs.Names.{temp, Generated, is_temp}
 use Rattle.both_meanings.specs.Carries.{Carries}
 use Rattle.both_meanings.specs.World.{Listed, World, IsValue}
-use Rattle.both_meanings.specs.Follows.{calls_of, ahead, Post, Follows}
+use Rattle.both_meanings.specs.Follows.{calls_of, Post, Follows}
 use Rattle.both_meanings.specs.Holds.{Site, Scheme, value_of, Holds}
 use Rattle.both_meanings.specs.Simulates.{Here, RecordsStay, Kept, Later, Matches, m_value, m_thrown, m_break, m_continue, m_next, m_return, or_top, writes_from, Good, Below}
 use Rattle.both_meanings.specs.Code.{Sets}
 use Rattle.both_meanings.proofs.Meeting.{met_none}
 use Rattle.both_meanings.proofs.Bind.{after, follows_then, follows_end, follows_post, follows_quiet, follows_starves, follows_task}
 use Rattle.both_meanings.proofs.Growing.{here_grows}
-use Rattle.both_meanings.proofs.Records.{bound_is, has_var, var_binds, var_within, wrote, value_wrote, value_elsewhere, value_other, length_wrote, shapes_wrote, record_wrote, record_other, same_or_not, shape_wrote}
+use Rattle.both_meanings.proofs.Records.{bound_is, has_var, var_binds, var_within, wrote, value_wrote, value_other, length_wrote, shape_wrote}
 use Rattle.both_meanings.proofs.Holding.{holds_temp, kept_temp}
-use Rattle.both_meanings.proofs.Laters.{later_refl, later_trans, stay_refl, stay_trans}
+use Rattle.both_meanings.proofs.Laters.{later_refl, later_trans, stay_trans}
 
 -- ---- a request begins: it takes a unit
 

@@ -1,10 +1,10 @@
 -- A heap in which another property was written than those by which it carries a state of Ruby carries it too.
-use Rattle.std.proofs.Common.{◌≡◌, ◌⊎◌, inl, inr, ⊎_elim, ℕ, zero, suc, ◌<◌, Bool, true, false, if◌then◌else◌, List, [], ◌∷◌, ◌++◌, length, Option, Some, None, refl, sym, ap, ◌∙◌, subst, arith, codes}
+use Rattle.std.proofs.Common.{◌≡◌, ℕ, zero, suc, Bool, true, false, if◌then◌else◌, List, [], ◌∷◌, length, Option, Some, None, refl, sym, ap, ◌∙◌, subst}
 use Rattle.std.specs.Prelude.{bytes_eq, ◌&&◌, pos}
 use Rattle.std.specs.List.{filter_map, cons_option, list_any, slice_get}
 use Rattle.ruby_meaning.specs.declared.value.Value.{Value}
 use Rattle.ruby_meaning.specs.declared.value.Value.TheVariants as value
-use Rattle.es5_tree.specs.Values.{Text, Val, Undefined, Null, Truth, Num, Str, Obj, first, find_own}
+use Rattle.es5_tree.specs.Values.{Text, Val, Truth, Num, Str, Obj, first, find_own}
 use Rattle.es5_tree.specs.Objects.Names.{decimal, is_length}
 use Rattle.es5_tree.specs.Objects.Cells.{Cell, is_array_length, own}
 use Rattle.es5_tree.specs.Objects.Cells as cell

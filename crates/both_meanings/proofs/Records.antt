@@ -1,14 +1,13 @@
 -- What a name is bound to, and what a write to a variable leaves, where both sides' states are tied by a world.
-use Rattle.std.proofs.Common.{◌≡◌, ◌⊎◌, inl, inr, ⊎_elim, ℕ, zero, suc, ◌<◌, ◌≤◌, ◌||◌, Bool, true, false, List, [], ◌∷◌, ◌++◌, length, map, Option, None, Some, refl, sym, ap, ◌∙◌, subst, arith}
+use Rattle.std.proofs.Common.{◌≡◌, ◌⊎◌, inl, inr, ⊎_elim, ℕ, zero, suc, ◌<◌, ◌||◌, Bool, true, false, List, [], ◌∷◌, length, map, Some, refl, sym, ap, ◌∙◌, subst, arith}
 use Rattle.std.specs.Prelude.{is_some, bytes_eq}
 use Rattle.std.proofs.lemmas.List.{length-set, get_or-set_same, get_or-set_other}
 use Rattle.es5_tree.specs.Values.{Text, Val, find_own}
 use Rattle.es5_tree.specs.Objects.Cells.{with_property}
 use Rattle.es5_tree.proofs.ObjectProperties.{find_written, find_other}
 use Rattle.es5_evaluation.specs.State.{Activation, State, record_at, binds, binding, binding_by, has_variable, value_in, with_variable}
-use Rattle.es5_evaluation.specs.Task.{with_stored, with_record}
-use Rattle.both_meanings.specs.World.{Shape, shape_of, stands, bound_in, World, Binds, bound_here, bound_around, Var, Sees}
-use Rattle.both_meanings.specs.Names.{IsFrameName}
+use Rattle.es5_evaluation.specs.Task.{with_stored}
+use Rattle.both_meanings.specs.World.{Shape, shape_of, stands, bound_in, World, Binds, bound_here, bound_around, Var}
 use Rattle.both_meanings.specs.Holds.{Shapes, value_of}
 
 pub true_or_false : (a : Bool) → (a ≡ true) ⊎ (a ≡ false)

@@ -1,5 +1,5 @@
 -- The small setting: its nodes are simulated, and calls of methods and blocks and jumps to tokens follow Ruby's.
-use Rattle.std.proofs.Common.{◌≡◌, ◌⊎◌, inl, inr, ⊎_elim, ℕ, ℤ, zero, suc, ◌+◌, ◌<◌, ◌≤◌, Bool, true, false, if◌then◌else◌, List, [], ◌∷◌, ◌++◌, length, Option, Some, None, refl, sym, ap, ◌∙◌, subst, arith, codes}
+use Rattle.std.proofs.Common.{◌≡◌, ℕ, ℤ, zero, suc, ◌<◌, ◌≤◌, true, if◌then◌else◌, List, [], ◌∷◌, ◌++◌, Some, None, refl, sym, ap, ◌∙◌, subst, arith, codes}
 use Rattle.opal_base.specs.declared.place.Pos.{Pos}
 use Rattle.ruby_meaning.specs.declared.tree.Base.TheOpen.{Kind-F}
 use Rattle.ruby_meaning.specs.declared.tree.JumpKind.TheVariants as jump_kind
@@ -18,13 +18,13 @@ use Rattle.es5_evaluation.specs.Task.{Completion, Scope, Done, ◌>>=◌}
 use Rattle.es5_evaluation.specs.Task as task
 use Rattle.es5_evaluation.specs.Evaluate.{all}
 use Rattle.es5_evaluation.proofs.Tasks.{all_first, and_all}
-use Rattle.es5_rules.specs.Steps.{Steps, Gives}
+use Rattle.es5_rules.specs.Steps.{Steps}
 use Rattle.es5_rules.proofs.Steps.{steps_refl, steps_from}
 use Rattle.es5_rules.proofs.Expressions.{gives_num, gives_name}
 use Rattle.es5_rules.proofs.Statements.{does_return}
 use Rattle.ruby_evaluation.specs.Tables.{Name}
 use Rattle.ruby_evaluation.specs.Lists.{Layer}
-use Rattle.ruby_evaluation.specs.State.{Ruby, frame_at}
+use Rattle.ruby_evaluation.specs.State.{frame_at}
 use Rattle.ruby_evaluation.specs.Task.{Next, Return, Result, Val, Leaves, Place, Request, Evaluate, Turn, BodyFirst, Attempt, Task, Eval, State, Outcome, Ends, walk, onval}
 use Rattle.ruby_evaluation.specs.Task as ruby
 use Rattle.ruby_evaluation.specs.Requires.{Files}
@@ -33,21 +33,20 @@ use Rattle.ruby_evaluation.specs.Texts.{jump_error}
 use Rattle.ruby_evaluation.specs.Run.{eval_to}
 use Rattle.both_meanings.specs.Names.{temp, self_name}
 use Rattle.both_meanings.specs.Carries.{Carries}
-use Rattle.both_meanings.specs.World.{World, IsValue, is_int, Sees}
+use Rattle.both_meanings.specs.World.{World, is_int, Sees}
 use Rattle.both_meanings.specs.Follows.{Follows}
 use Rattle.both_meanings.specs.Holds.{Site, Scheme, value_of, Holds}
-use Rattle.both_meanings.specs.Simulates.{Here, RecordsStay, Kept, Later, Matches, m_next, m_return, Good, Below, place_of, Simulates}
+use Rattle.both_meanings.specs.Simulates.{Here, m_next, m_return, Good, Below, place_of, Simulates}
 use Rattle.both_meanings.specs.Code.{Sets}
-use Rattle.both_meanings.specs.Small.{CodeOf, of_int, of_self, of_next, of_return, node_of, IsCode, small, SmallSimulates, MethodCall, BlockCall, TokenJump}
+use Rattle.both_meanings.specs.Small.{CodeOf, of_int, of_self, of_next, of_return, IsCode, small, SmallSimulates}
 use Rattle.both_meanings.proofs.Meeting.{met_none}
 use Rattle.both_meanings.proofs.Bind.{follows_end, follows_outcome, follows_starves, follows_task}
-use Rattle.both_meanings.proofs.Growing.{var_grows}
 use Rattle.both_meanings.proofs.Records.{bound_is}
 use Rattle.both_meanings.proofs.Holding.{kept_refl}
 use Rattle.both_meanings.proofs.Entering.{some_same}
 use Rattle.both_meanings.proofs.Laters.{later_refl, stay_refl}
 use Rattle.both_meanings.proofs.Bodies.{reads_temp}
-use Rattle.both_meanings.proofs.Parts.{begins, part, Behind, leaf}
+use Rattle.both_meanings.proofs.Parts.{begins, part, leaf}
 
 none_some : {A : Type 0} (x : A) → None ≡ Some x → ⊥
 none_some x e = cc

@@ -1,8 +1,8 @@
 -- A function begins: its record is entered, self and the locals get their first values.
-use Rattle.std.proofs.Common.{◌≡◌, ◌⊎◌, inl, inr, ⊎_elim, ℕ, suc, ◌+◌, ◌<◌, ◌≤◌, ◌||◌, Bool, true, false, List, [], ◌∷◌, ◌++◌, length, Option, Some, None, refl, sym, ap, ◌∙◌, subst, arith, codes}
-use Rattle.std.specs.Prelude.{bytes_eq, is_some, slice_set}
+use Rattle.std.proofs.Common.{◌≡◌, ◌⊎◌, inl, inr, ⊎_elim, ℕ, ◌+◌, ◌≤◌, ◌||◌, Bool, true, false, List, [], ◌∷◌, ◌++◌, length, Some, refl, sym, ap, ◌∙◌, subst, arith}
+use Rattle.std.specs.Prelude.{bytes_eq, slice_set}
 use Rattle.std.proofs.lemmas.Slice.Eq.{bytes_eq-Decides}
-use Rattle.std.proofs.lemmas.List.{length-append, get_or_push}
+use Rattle.std.proofs.lemmas.List.{get_or_push}
 use Rattle.opal_base.specs.declared.place.Pos.{Pos}
 use Rattle.es5_tree.specs.declared.tree.EsExpr.{EsExpr}
 use Rattle.es5_tree.specs.declared.tree.EsKind.TheVariants as kind
@@ -13,20 +13,20 @@ use Rattle.es5_tree.specs.Objects.Cells as cells
 use Rattle.es5_tree.specs.Objects.Links.{cell_at}
 use Rattle.es5_tree.proofs.ObjectProperties.{find_written, find_other}
 use Rattle.es5_evaluation.specs.State.{Code, Activation, State, code_at, record_at, value_in, with_variable, binding, has_variable}
-use Rattle.es5_evaluation.specs.Task.{Completion, Normal, Scope, Task, Done, Ask, ◌>>=◌, with_record, with_stored}
+use Rattle.es5_evaluation.specs.Task.{Normal, Scope, ◌>>=◌, with_record, with_stored}
 use Rattle.es5_evaluation.specs.Declared.{own_code}
-use Rattle.es5_evaluation.specs.Evaluate.{activation, all, enter, entered, invoke, invoke_kind, left, normally, passed, run_body}
+use Rattle.es5_evaluation.specs.Evaluate.{activation, all, enter, entered, invoke, invoke_kind, left, passed, run_body}
 use Rattle.es5_evaluation.proofs.Tasks.{all_first, and_all}
 use Rattle.es5_rules.specs.Steps.{Steps, Gives, Does}
 use Rattle.es5_rules.proofs.Steps.{steps_refl, steps_trans, steps_count, steps_from, steps_to, steps_look, steps_enter}
-use Rattle.es5_rules.proofs.Expressions.{gives_name, gives_this}
+use Rattle.es5_rules.proofs.Expressions.{gives_this}
 use Rattle.es5_rules.proofs.Statements.{does_var}
 use Rattle.es5_rules.proofs.Records.{value_other, value_wrote}
 use Rattle.ruby_evaluation.specs.Tables.{Name}
-use Rattle.both_meanings.specs.Names.{local, self_name, IsFrameName}
-use Rattle.both_meanings.specs.World.{Shape, shape_of, stands, World}
+use Rattle.both_meanings.specs.Names.{local, self_name}
+use Rattle.both_meanings.specs.World.{Shape, shape_of, stands}
 use Rattle.both_meanings.specs.Code.{Inits, inits_none, inits_more, Prelude, prelude}
-use Rattle.both_meanings.proofs.NamesDiffer.{frame_name, no_temp, no_local}
+use Rattle.both_meanings.proofs.NamesDiffer.{frame_name, no_local}
 use Rattle.both_meanings.proofs.Records.{true_or_false, found_stands, same_names}
 
 -- ---- the record is entered
@@ -57,9 +57,9 @@ does_last_var : (x : Text) (e : EsExpr) (ρ : Scope) (s : State) (a : Activation
 does_last_var x e ρ s a m v at g i j =
     let here : record_at (s.records ++ a ∷ []) ρ.innermost ≡ a = ap (record_at (s.records ++ a ∷ [])) at ∙ last_at s.records a in
     let is : with_stored (with_record s a) ρ.innermost (with_variable (record_at (with_record s a).records ρ.innermost) x v) ≡ with_record s (with_variable a x v) =
-        ap (λ b. with_stored (with_record s a) ρ.innermost (with_variable b x v)) here
-        ∙ ap (λ n. with_stored (with_record s a) n (with_variable a x v)) at
-        ∙ ap (λ l. record s { records = l }) (set_last s.records a (with_variable a x v)) in
+    ap (λ b. with_stored (with_record s a) ρ.innermost (with_variable b x v)) here
+    ∙ ap (λ n. with_stored (with_record s a) n (with_variable a x v)) at
+    ∙ ap (λ l. record s { records = l }) (set_last s.records a (with_variable a x v)) in
     subst (λ z. Does (stmt.Var x (Some e)) ρ (with_record s a) (1 + m) (Normal v) z []) is
     (does_var x e ρ (with_record s a) (with_record s a) ρ.innermost m v [] g i (ap (λ b. has_variable b x) here ∙ j))
 

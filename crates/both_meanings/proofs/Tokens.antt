@@ -1,11 +1,11 @@
 -- The token of a call is closed on both sides.
-use Rattle.std.proofs.Common.{◌≡◌, ◌⊎◌, inl, inr, ⊎_elim, ℕ, zero, suc, ◌+◌, ◌<◌, Bool, true, false, List, [], ◌∷◌, ◌++◌, length, map, Option, Some, None, refl, sym, ap, ◌∙◌, subst, arith, codes}
-use Rattle.std.specs.Prelude.{bytes_eq, ◌==◌}
+use Rattle.std.proofs.Common.{◌≡◌, ⊎_elim, ℕ, zero, suc, ◌+◌, ◌<◌, true, false, List, [], ◌∷◌, length, map, Some, refl, sym, ap, ◌∙◌, subst, arith, codes}
+use Rattle.std.specs.Prelude.{bytes_eq}
 use Rattle.std.specs.Int.Digits.{digits_of}
 use Rattle.std.proofs.lemmas.Bool.{eq-eqb}
 use Rattle.std.proofs.lemmas.Slice.Eq.{bytes_eq-Decides}
 use Rattle.std.proofs.lemmas.List.{length-set, get_or-set_same, get_or-set_other}
-use Rattle.es5_tree.specs.Values.{Text, Val, Truth, Obj, find_own}
+use Rattle.es5_tree.specs.Values.{Text, Val, Truth, find_own}
 use Rattle.es5_tree.specs.Objects.Names.{decimal}
 use Rattle.es5_tree.specs.Objects.Cells.{Cell, put, with_value, with_property, own, is_array_length}
 use Rattle.es5_tree.specs.Objects.Cells as cell
@@ -18,8 +18,8 @@ use Rattle.ruby_evaluation.specs.State.{Ruby, call_closed, is_call_open}
 use Rattle.ruby_evaluation.specs.Task.{State, changed}
 use Rattle.both_meanings.specs.Names.{self_name}
 use Rattle.both_meanings.specs.Carries.{Heap, id_name, mod_name, stub_name, method_name, IsPlain, IsVariable, own_of}
-use Rattle.both_meanings.specs.World.{Function, Target, OfFrame, OfCall, Role, Token, Carrier, Listed, World}
-use Rattle.both_meanings.specs.Holds.{Scheme, open_name, token_name, value_name, Serves, IsFunction, IsProc, ObjectsHold, Holds}
+use Rattle.both_meanings.specs.World.{Target, OfFrame, OfCall, Role, Token, Carrier, Listed, World}
+use Rattle.both_meanings.specs.Holds.{Scheme, open_name, token_name, value_name, Serves, Holds}
 use Rattle.both_meanings.proofs.Records.{same_or_not}
 use Rattle.both_meanings.proofs.Holding.{carries_same}
 use Rattle.both_meanings.proofs.Quiet.{IsPrivate, SameBut, own_same, get_same, id_same, mod_same, carries_but}

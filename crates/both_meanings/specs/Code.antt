@@ -1,6 +1,6 @@
 -- What the code of functions and statements comes to: texts with their first statements and their end, methods and blocks that
 -- take no parameters, and what stands behind a call that may jump to a token.
-use Rattle.std.specs.Prelude.{◌≡◌, ◌⊎◌, ℕ, ◌<◌, ◌≤◌, true, false, List, [], ◌∷◌, ◌++◌, length, Option, Some, None, is_some}
+use Rattle.std.specs.Prelude.{◌≡◌, ◌⊎◌, ℕ, ◌<◌, ◌≤◌, true, false, List, [], ◌∷◌, ◌++◌, length, Some, None, is_some}
 use Rattle.ruby_meaning.specs.declared.tree.Node.{Node}
 use Rattle.ruby_meaning.specs.declared.tree.Params.{out-Params}
 use Rattle.ruby_meaning.specs.declared.tree.Rest.TheVariants as rest

@@ -17,7 +17,7 @@ use Rattle.both_meanings.specs.Names.{temp, Generated}
 use Rattle.both_meanings.specs.World.{shape_of, stands, Function, Framed, Target, OfFrame, OfCall, Token, Carrier, Listed, World, Grows, IsValue, Var, Sees, SeesLocal}
 use Rattle.both_meanings.specs.Holds.{Site, Scheme, IsTarget, variable_at, value_of, Holds}
 use Rattle.both_meanings.specs.Carries.{Carries}
-use Rattle.both_meanings.specs.Follows.{Post, Follows}
+use Rattle.both_meanings.specs.Follows.{Follows}
 
 -- ---- where a node stands
 

@@ -3,4 +3,4 @@
 
 mod laws;
 
-pub use laws::agreement;
+pub use laws::{agreement, block_call, method_call, small_simulates, token_jump};
