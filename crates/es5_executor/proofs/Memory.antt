@@ -1,0 +1,303 @@
+-- Laws of objects and variables.
+use Rattle.std.proofs.Common.{◌≡◌, ◌≢◌, ℕ, zero, suc, ◌+◌, ◌-◌, ◌<◌, ◌≤◌, Bool, true, false, ◌||◌, ◌&&◌, ◌⊎◌, if◌then◌else◌, List, [], ◌∷◌, ◌++◌, length, set, Option, Some, None, is_some, refl, sym, ap, subst, ◌∙◌, arith, inl, inr, ⊎_elim, bytes_eq, length-append, length-set}
+use Rattle.std.proofs.lemmas.Bool.{cases_lt}
+use Rattle.std.proofs.lemmas.List.{get_or-set_same, get_or-set_other, get_or_past, get_or_append_left}
+use Rattle.std.proofs.Math.Seq.{get_or-append_seam}
+use Rattle.std.proofs.lemmas.Slice.Eq.{bytes_eq-Decides}
+use Rattle.es5_tree.specs.Values.{Text, Val, find_own, first}
+use Rattle.es5_tree.specs.Objects.Names.{is_length}
+use Rattle.es5_tree.specs.Objects.Cells.{Cell, Object, new_cell, is_array, is_array_length, own, put, with_length, with_value, with_property, whole}
+use Rattle.es5_tree.specs.Objects.Links.{cell_at, link_at, chain, first_of_chain, first_own, get}
+use Rattle.es5_tree.proofs.ObjectProperties.{find_written, find_other}
+use Rattle.es5_evaluation.specs.State.{Activation, record_at, set_record, binding_by, binds, with_variable}
+use Rattle.es5_executor.specs.Memory.{assign, Heap, Records, has, write}
+
+pub same_or_not : (a b : ℕ) → (a ≡ b) ⊎ (a ≢ b)
+same_or_not zero zero = inl refl
+same_or_not zero (suc b) = inr (λ e. omega (arith, e))
+same_or_not (suc a) zero = inr (λ e. omega (arith, e))
+same_or_not (suc a) (suc b) = ⊎_elim (λ e. inl (ap suc e)) (λ n. inr (λ e. n (omega (arith, e)))) (same_or_not a b)
+
+pub eq_of : (m n : Text) → bytes_eq m n ≡ true → m ≡ n
+eq_of m n e = (bytes_eq-Decides m n).0 e
+
+true_not_false : {X : Type 0} (b : Bool) → b ≡ true → b ≡ false → X
+true_not_false b e f = cc
+
+pub differ : (m n : Text) → bytes_eq m n ≡ false → m ≡ n → ⊥
+differ m n f e = true_not_false (bytes_eq m n) ((bytes_eq-Decides m n).1 e) f
+
+both_false : (a b : Bool) → (a || b) ≡ false → (a ≡ false) × (b ≡ false)
+both_false true b e = cc
+both_false false b e = (refl, e)
+
+and_false : (a b : Bool) → b ≡ false → (a && b) ≡ false
+and_false true b e = e
+and_false false b e = refl
+
+-- ---- objects past the end
+
+past_end : (h : Heap) (a : ℕ) → length h ≤ a → cell_at h a ≡ new_cell Object None
+unfolding cell_at
+past_end h a l = get_or_past h a (new_cell Object None) l
+
+nothing_own : (n : Text) → own (new_cell Object None) n ≡ None
+unfolding own find_own
+nothing_own n = refl
+
+pub has_inside : (h : Heap) (a : ℕ) (n : Text) (v : Val) → has h a n ≡ Some v → a < length h
+has_inside h a n v e = ⊎_elim (λ l. l) (λ l. absurd (no l)) (cases_lt a (length h))
+  where
+    no : length h ≤ a → ⊥
+    no l = let f : None ≡ Some v = sym (nothing_own n) ∙ (sym (ap (λ c. own c n) (past_end h a l)) ∙ e) in cc
+
+-- ---- writes
+
+pub put_kind : (c : Cell) (n : Text) (v : Val) → (put c n v).kind ≡ c.kind
+unfolding put with_length with_value
+put_kind c n v = choose (is_array_length c n)
+  where
+    choose : (b : Bool) → (if b then with_length c (whole v) else with_value c n v).kind ≡ c.kind
+    choose true = refl
+    choose false = refl
+
+pub put_link : (c : Cell) (n : Text) (v : Val) → (put c n v).link ≡ c.link
+unfolding put with_length with_value
+put_link c n v = choose (is_array_length c n)
+  where
+    choose : (b : Bool) → (if b then with_length c (whole v) else with_value c n v).link ≡ c.link
+    choose true = refl
+    choose false = refl
+
+pub write_length : (h : Heap) (a : ℕ) (n : Text) (v : Val) → length (write h a n v) ≡ length h
+unfolding write
+write_length h a n v = length-set h a _
+
+pub write_there : (h : Heap) (a : ℕ) (n : Text) (v : Val) → a < length h → cell_at (write h a n v) a ≡ put (cell_at h a) n v
+unfolding write cell_at
+write_there h a n v l = get_or-set_same h a _ _ l
+
+pub write_other : (h : Heap) (a b : ℕ) (n : Text) (v : Val) → a ≢ b → cell_at (write h a n v) b ≡ cell_at h b
+unfolding write cell_at
+write_other h a b n v d = get_or-set_other h a b _ _ (λ e. d (sym e))
+
+write_past : (h : Heap) (a b : ℕ) (n : Text) (v : Val) → length h ≤ a → cell_at (write h a n v) b ≡ cell_at h b
+write_past h a b n v l = ⊎_elim here (λ d. write_other h a b n v d) (same_or_not a b)
+  where
+    here : a ≡ b → cell_at (write h a n v) b ≡ cell_at h b
+    here e =
+        let m = write_length h a n v in
+        past_end (write h a n v) b (omega (arith, l, e, m)) ∙ sym (past_end h b (omega (arith, l, e)))
+
+-- what a write leaves of each cell, where it leaves it of the cell written
+each_cell : {X : Type 0} (f : Cell → X) (h : Heap) (a b : ℕ) (n : Text) (v : Val) → f (put (cell_at h a) n v) ≡ f (cell_at h a) → f (cell_at (write h a n v) b) ≡ f (cell_at h b)
+each_cell f h a b n v e = ⊎_elim here (λ d. ap f (write_other h a b n v d)) (same_or_not a b)
+  where
+    here : a ≡ b → f (cell_at (write h a n v) b) ≡ f (cell_at h b)
+    here p = subst (λ x. f (cell_at (write h a n v) x) ≡ f (cell_at h x)) p
+        (⊎_elim (λ l. ap f (write_there h a n v l) ∙ e) (λ l. ap f (write_past h a a n v l)) (cases_lt a (length h)))
+
+pub kind_kept : (h : Heap) (a b : ℕ) (n : Text) (v : Val) → (cell_at (write h a n v) b).kind ≡ (cell_at h b).kind
+kind_kept h a b n v = each_cell (λ c. c.kind) h a b n v (put_kind (cell_at h a) n v)
+
+pub link_kept : (h : Heap) (a b : ℕ) (n : Text) (v : Val) → link_at (write h a n v) b ≡ link_at h b
+link_kept h a b n v = each_cell (λ c. c.link) h a b n v (put_link (cell_at h a) n v)
+
+put_other : (c : Cell) (m n : Text) (v : Val) → is_length m ≡ false → bytes_eq m n ≡ false → is_length n ≡ false → own (put c m v) n ≡ own c n
+unfolding own put with_value
+put_other c m n v p d e =
+    let x = and_false (is_array c.kind) (is_length m) p in
+    let y = and_false (is_array c.kind) (is_length n) e in
+    rw x (rw y (find_other c.properties m n v (differ m n d)))
+
+put_there : (c : Cell) (m : Text) (v : Val) → is_length m ≡ false → own (put c m v) m ≡ Some v
+unfolding own put with_value
+put_there c m v p = let x = and_false (is_array c.kind) (is_length m) p in rw x (rw x (find_written c.properties m v))
+
+pub has_other_name : (h : Heap) (a b : ℕ) (m n : Text) (v : Val) → is_length m ≡ false → (bytes_eq m n || is_length n) ≡ false → has (write h a m v) b n ≡ has h b n
+has_other_name h a b m n v p q =
+    let d = both_false _ _ q in
+    each_cell (λ c. own c n) h a b m v (put_other (cell_at h a) m n v p d.0 d.1)
+
+pub has_written : (h : Heap) (a : ℕ) (m : Text) (v : Val) → is_length m ≡ false → a < length h → has (write h a m v) a m ≡ Some v
+has_written h a m v p l = ap (λ c. own c m) (write_there h a m v l) ∙ put_there (cell_at h a) m v p
+
+-- ---- properties along the links
+
+first_kept : (h h' : Heap) (os : List ℕ) (n : Text) → ((b : ℕ) → has h' b n ≡ has h b n) → first_own h' os n ≡ first_own h os n
+unfolding first_own
+first_kept h h' [] n e = refl
+first_kept h h' (o ∷ os) n e = ap (λ x. first x (λ u. first_own h' os n)) (e o) ∙ ap (λ x. first (has h o n) (λ u. x)) (first_kept h h' os n e)
+
+chain_kept : (k : ℕ) (h h' : Heap) (at : Option ℕ) → ((b : ℕ) → link_at h' b ≡ link_at h b) → first_of_chain k h' at ≡ first_of_chain k h at
+unfolding first_of_chain
+chain_kept zero h h' at e = refl
+chain_kept (suc k) h h' None e = refl
+chain_kept (suc k) h h' (Some o) e = ap (λ l. o ∷ l) (ap (λ x. first_of_chain k h' x) (e o) ∙ chain_kept k h h' (link_at h o) e)
+
+pub get_other_name : (h : Heap) (a b : ℕ) (m n : Text) (v : Val) → is_length m ≡ false → (bytes_eq m n || is_length n) ≡ false → get (write h a m v) b n ≡ get h b n
+unfolding get chain
+get_other_name h a b m n v p q =
+    ap (λ k. first_own (write h a m v) (first_of_chain k (write h a m v) (Some b)) n) (write_length h a m v)
+    ∙ (ap (λ os. first_own (write h a m v) os n) (chain_kept (length h) h (write h a m v) (Some b) (λ x. link_kept h a x m v))
+    ∙ first_kept h (write h a m v) (first_of_chain (length h) h (Some b)) n (λ x. has_other_name h a x m n v p q))
+
+pub get_own : (h : Heap) (a : ℕ) (n : Text) (v : Val) → has h a n ≡ Some v → get h a n ≡ Some v
+unfolding get chain first_of_chain first_own
+get_own h a n v e =
+    let l = has_inside h a n v e in
+    ap (λ k. first_own h (first_of_chain k h (Some a)) n) {x = length h} {y = suc (length h - 1)} (omega (arith, l))
+    ∙ ap (λ x. first x (λ u. first_own h (first_of_chain (length h - 1) h (link_at h a)) n)) e
+
+-- ---- one more object
+
+pub old_cell : (h : Heap) (c : Cell) (b : ℕ) → b < length h → cell_at (h ++ c ∷ []) b ≡ cell_at h b
+unfolding cell_at
+old_cell h c b l = get_or_append_left h (c ∷ []) _ b l
+
+pub new_cell_is : (h : Heap) (c : Cell) → cell_at (h ++ c ∷ []) (length h) ≡ c
+unfolding cell_at
+new_cell_is h c = get_or-append_seam h c [] _
+
+pub more_objects : (h : Heap) (c : Cell) → length (h ++ c ∷ []) ≡ suc (length h)
+more_objects h c = let e = length-append h (c ∷ []) in omega (arith, e)
+
+pub has_old : (h : Heap) (c : Cell) (b : ℕ) (n : Text) (v : Val) → has h b n ≡ Some v → has (h ++ c ∷ []) b n ≡ Some v
+has_old h c b n v e = ap (λ x. own x n) (old_cell h c b (has_inside h b n v e)) ∙ e
+
+found_old : (k : ℕ) (h : Heap) (c : Cell) (at : Option ℕ) (n : Text) (v : Val) → first_own h (first_of_chain k h at) n ≡ Some v → first_own (h ++ c ∷ []) (first_of_chain (suc k) (h ++ c ∷ []) at) n ≡ Some v
+unfolding first_own first_of_chain
+found_old zero h c at n v e = cc
+found_old (suc k) h c None n v e = cc
+found_old (suc k) h c (Some o) n v e = ⊎_elim (inside (λ f. found_old k h c (link_at h o) n v f)) outside (cases_lt o (length h))
+  where
+    step : (first_own h (first_of_chain k h (link_at h o)) n ≡ Some v → first_own (h ++ c ∷ []) (first_of_chain (suc k) (h ++ c ∷ []) (link_at h o)) n ≡ Some v) → (a : Option Val) → has h o n ≡ a → cell_at (h ++ c ∷ []) o ≡ cell_at h o → first a (λ u. first_own h (first_of_chain k h (link_at h o)) n) ≡ Some v →
+        first (has (h ++ c ∷ []) o n) (λ u. first_own (h ++ c ∷ []) (first_of_chain (suc k) (h ++ c ∷ []) (link_at (h ++ c ∷ []) o)) n) ≡ Some v
+    step ih (Some w) p q f = ap (λ x. first (own x n) (λ u. first_own (h ++ c ∷ []) (first_of_chain (suc k) (h ++ c ∷ []) (link_at (h ++ c ∷ []) o)) n)) q ∙ (ap (λ x. first x (λ u. first_own (h ++ c ∷ []) (first_of_chain (suc k) (h ++ c ∷ []) (link_at (h ++ c ∷ []) o)) n)) p ∙ f)
+    step ih None p q f =
+        ap (λ x. first (own x n) (λ u. first_own (h ++ c ∷ []) (first_of_chain (suc k) (h ++ c ∷ []) (link_at (h ++ c ∷ []) o)) n)) q
+        ∙ (ap (λ x. first x (λ u. first_own (h ++ c ∷ []) (first_of_chain (suc k) (h ++ c ∷ []) (link_at (h ++ c ∷ []) o)) n)) p
+        ∙ (ap (λ x. first_own (h ++ c ∷ []) (first_of_chain (suc k) (h ++ c ∷ []) x.link) n) q ∙ ih f))
+
+    inside : (first_own h (first_of_chain k h (link_at h o)) n ≡ Some v → first_own (h ++ c ∷ []) (first_of_chain (suc k) (h ++ c ∷ []) (link_at h o)) n ≡ Some v) → o < length h → first (has (h ++ c ∷ []) o n) (λ u. first_own (h ++ c ∷ []) (first_of_chain (suc k) (h ++ c ∷ []) (link_at (h ++ c ∷ []) o)) n) ≡ Some v
+    inside ih l = step ih (has h o n) refl (old_cell h c o l) e
+
+    nothing_found : (j : ℕ) → first_own h (first_of_chain j h None) n ≡ None
+    nothing_found zero = refl
+    nothing_found (suc j) = refl
+
+    outside : length h ≤ o → first (has (h ++ c ∷ []) o n) (λ u. first_own (h ++ c ∷ []) (first_of_chain (suc k) (h ++ c ∷ []) (link_at (h ++ c ∷ []) o)) n) ≡ Some v
+    outside l =
+        let p = past_end h o l in
+        let f : None ≡ Some v = sym (nothing_found k) ∙ (sym (ap (λ x. first_own h (first_of_chain k h x.link) n) p) ∙ (sym (ap (λ x. first x (λ u. first_own h (first_of_chain k h (link_at h o)) n)) (ap (λ x. own x n) p ∙ nothing_own n)) ∙ e)) in
+        cc
+
+pub get_old : (h : Heap) (c : Cell) (b : ℕ) (n : Text) (v : Val) → get h b n ≡ Some v → get (h ++ c ∷ []) b n ≡ Some v
+unfolding get chain
+get_old h c b n v e = ap (λ k. first_own (h ++ c ∷ []) (first_of_chain k (h ++ c ∷ []) (Some b)) n) (more_objects h c) ∙ found_old (length h) h c (Some b) n v e
+
+-- ---- records
+
+pub inside_record : (R : Records) (r : ℕ) → length R ≤ r → record_at R r ≡ record { variables = []; constants = []; outer = None }
+unfolding record_at
+inside_record R r l = get_or_past R r _ l
+
+pub record_set : (R : Records) (r : ℕ) (a : Activation) → r < length R → record_at (set_record R r a) r ≡ a
+unfolding record_at
+record_set R r a l = get_or-set_same R r a _ l
+
+pub record_other : (R : Records) (r b : ℕ) (a : Activation) → b ≢ r → record_at (set_record R r a) b ≡ record_at R b
+unfolding record_at
+record_other R r b a d = get_or-set_other R r b a _ d
+
+pub record_new : (R : Records) (a : Activation) → record_at (R ++ a ∷ []) (length R) ≡ a
+unfolding record_at
+record_new R a = get_or-append_seam R a [] _
+
+pub record_old : (R : Records) (a : Activation) (b : ℕ) → b < length R → record_at (R ++ a ∷ []) b ≡ record_at R b
+unfolding record_at
+record_old R a b l = get_or_append_left R (a ∷ []) _ b l
+
+-- the same names bound and the same record around
+pub record Alike (a b : Activation) : Type 0 where
+  pub outer : a.outer ≡ b.outer
+  pub binds : (x : Text) → binds a x ≡ binds b x
+
+abbrev pub AllAlike : Records → Records → Type 0
+AllAlike R S = (b : ℕ) → Alike (record_at R b) (record_at S b)
+
+pub alike_refl : (a : Activation) → Alike a a
+alike_refl a = record { outer = refl; binds = λ x. refl }
+
+pub bindings_alike : (k : ℕ) (R S : Records) (at : Option ℕ) (x : Text) → AllAlike R S → binding_by k R at x ≡ binding_by k S at x
+unfolding binding_by
+bindings_alike zero R S at x e = refl
+bindings_alike (suc k) R S None x e = refl
+bindings_alike (suc k) R S (Some r) x e =
+    ap (λ b. if b then Some r else binding_by k R (record_at R r).outer x) ((e r).binds x)
+    ∙ ap (λ o. if binds (record_at S r) x then Some r else o) (ap (λ o. binding_by k R o x) (e r).outer ∙ bindings_alike k R S (record_at S r).outer x e)
+
+pub set_alike : (R : Records) (r : ℕ) (a : Activation) → Alike a (record_at R r) → AllAlike (set_record R r a) R
+set_alike R r a e b = ⊎_elim here (λ d. subst (λ z. Alike z (record_at R b)) (sym (record_other R r b a d)) (alike_refl (record_at R b))) (same_or_not b r)
+  where
+    here : b ≡ r → Alike (record_at (set_record R r a) b) (record_at R b)
+    here p = subst (λ z. Alike (record_at (set_record R r a) z) (record_at R z)) (sym p)
+        (⊎_elim (λ l. subst (λ z. Alike z (record_at R r)) (sym (record_set R r a l)) e)
+        (λ l. let m : length (set R r a) ≡ length R = length-set R r a in
+        let q : record_at (set_record R r a) r ≡ record_at R r = inside_record (set_record R r a) r (omega (arith, l, m)) ∙ sym (inside_record R r l) in
+        subst (λ z. Alike z (record_at R r)) (sym q) (alike_refl (record_at R r)))
+        (cases_lt r (length R)))
+
+-- more records to look through find the same
+pub binding_more : (k j : ℕ) (R : Records) (at : Option ℕ) (x : Text) (b : ℕ) → binding_by k R at x ≡ Some b → binding_by (k + j) R at x ≡ Some b
+unfolding binding_by
+binding_more zero j R at x b e = cc
+binding_more (suc k) j R None x b e = cc
+binding_more (suc k) j R (Some r) x b e = ap (λ n. binding_by n R (Some r) x) {x = suc k + j} {y = suc (k + j)} (omega arith) ∙ go (λ f. binding_more k j R (record_at R r).outer x b f) (binds (record_at R r) x) e
+  where
+    go : (binding_by k R (record_at R r).outer x ≡ Some b → binding_by (k + j) R (record_at R r).outer x ≡ Some b) → (t : Bool) → (if t then Some r else binding_by k R (record_at R r).outer x) ≡ Some b → (if t then Some r else binding_by (k + j) R (record_at R r).outer x) ≡ Some b
+    go ih true f = f
+    go ih false f = ih f
+
+-- one record more
+pub binding_old : (k : ℕ) (R : Records) (a : Activation) (at : Option ℕ) (x : Text) (b : ℕ) → binding_by k R at x ≡ Some b → binding_by k (R ++ a ∷ []) at x ≡ Some b
+unfolding binding_by find_own
+binding_old zero R a at x b e = cc
+binding_old (suc k) R a None x b e = cc
+binding_old (suc k) R a (Some r) x b e = ⊎_elim (inside (λ f. binding_old k R a (record_at R r).outer x b f)) outside (cases_lt r (length R))
+  where
+    go : (binding_by k R (record_at R r).outer x ≡ Some b → binding_by k (R ++ a ∷ []) (record_at R r).outer x ≡ Some b) → (t : Bool) → (if t then Some r else binding_by k R (record_at R r).outer x) ≡ Some b → (if t then Some r else binding_by k (R ++ a ∷ []) (record_at R r).outer x) ≡ Some b
+    go ih true f = f
+    go ih false f = ih f
+
+    inside : (binding_by k R (record_at R r).outer x ≡ Some b → binding_by k (R ++ a ∷ []) (record_at R r).outer x ≡ Some b) → r < length R → (if binds (record_at (R ++ a ∷ []) r) x then Some r else binding_by k (R ++ a ∷ []) (record_at (R ++ a ∷ []) r).outer x) ≡ Some b
+    inside ih l = ap (λ z. if binds z x then Some r else binding_by k (R ++ a ∷ []) z.outer x) (record_old R a r l) ∙ go ih (binds (record_at R r) x) e
+
+    nothing : (j : ℕ) → binding_by j R None x ≡ None
+    nothing zero = refl
+    nothing (suc j) = refl
+
+    outside : length R ≤ r → (if binds (record_at (R ++ a ∷ []) r) x then Some r else binding_by k (R ++ a ∷ []) (record_at (R ++ a ∷ []) r).outer x) ≡ Some b
+    outside l = let f : None ≡ Some b = sym (nothing k) ∙ (sym (ap (λ z. if binds z x then Some r else binding_by k R z.outer x) (inside_record R r l)) ∙ e) in cc
+
+pub either : (b : Bool) → (b ≡ true) ⊎ (b ≡ false)
+either true = inl refl
+either false = inr refl
+
+-- a write to a variable that is there
+pub written_alike : (a : Activation) (x : Text) (v w : Val) → find_own a.variables x ≡ Some w → Alike (with_variable a x v) a
+written_alike a x v w e = record { outer = refl; binds = λ y. go y }
+  where
+    go : (y : Text) → (is_some (find_own (with_property a.variables x v) y) || is_some (find_own a.constants y)) ≡ (is_some (find_own a.variables y) || is_some (find_own a.constants y))
+    go y = ap (λ b. b || is_some (find_own a.constants y)) (⊎_elim
+        (λ (p : bytes_eq x y ≡ true). let q = eq_of x y p in ap is_some (subst (λ z. find_own (with_property a.variables x v) z ≡ Some v) q (find_written a.variables x v)) ∙ sym (ap is_some (subst (λ z. find_own a.variables z ≡ Some w) q e)))
+        (λ (p : bytes_eq x y ≡ false). ap is_some (find_other a.variables x y v (differ x y p)))
+        (either (bytes_eq x y)))
+
+pub record_inside : (R : Records) (b : ℕ) (x : Text) (v : Val) → find_own (record_at R b).variables x ≡ Some v → b < length R
+unfolding find_own
+record_inside R b x v e = ⊎_elim (λ l. l) (λ l. absurd (let f : None ≡ Some v = sym (ap (λ a. find_own a.variables x) (inside_record R b l)) ∙ e in cc)) (cases_lt b (length R))
+
+pub assign_length : (R : Records) (b : ℕ) (x : Text) (v : Val) → length (assign R b x v) ≡ length R
+unfolding assign
+assign_length R b x v = length-set R b _
