@@ -18,7 +18,7 @@ use Rattle.es5_executor.proofs.Memory
 use Rattle.es5_executor.proofs.Sym.{Own, Ev, Do, act, Unless}
 use Rattle.es5_executor.proofs.Calls.{by_call, by_node, seam, rest_of}
 use Rattle.es5_executor.proofs.Codes.{code_is}
-use Rattle.es5_executor.proofs.Loops.{Loop, loop_ends, loop_goes}
+use Rattle.es5_executor.proofs.Loops.{Quiet, loop_ends, loop_goes}
 use Rattle.es5_executor.proofs.Stepping.{stepping}
 
 define_own : own_code define_code.body ≡ record { names = codes "l" ∷ []; arguments = false }
@@ -59,25 +59,25 @@ unless true P e = absurd (let f : true ≡ false = e in cc)
 unless false P e = tt
 
 loops : (ls : List ℕ) (s : State) (o : ℕ) (h : Heap) (this m : Val) (n : Text) (f v : Val) → o < length s.records → IsMethod n → Links h v ls →
-    Loop test body (record { this = this; innermost = length s.records }) (at_turn s o h m n f v) (3 + 16 * length ls) (Gave (Normal Undefined)) (at_turn s o (write_all h ls n f) m n f Null)
+    Quiet test body (record { this = this; innermost = length s.records }) (at_turn s o h m n f v) (3 + 16 * length ls) (Gave (Normal Undefined)) (at_turn s o (write_all h ls n f) m n f Null)
 unfolding stepping
 loops [] s o h this m n f v below a c =
     let long = length-append s.records (act o (frame_of m n f Null) ∷ []) in
     let top = Memory.record_new s.records (act o (frame_of m n f Null)) in
-    let end = by_node (length s.records) o this (Ev test) (at_turn s o h m n f Null) (frame_of m n f Null) 20 [] [] [] [] 3 (Gave (Normal (Truth false))) _ top (omega (arith, long)) below tt tt tt (assumption (seam s.records (act o (frame_of m n f Null)) (act o (frame_of m n f Null)))) in
-    subst (λ z. Loop test body (record { this = this; innermost = length s.records }) (at_turn s o h m n f z) 3 (Gave (Normal Undefined)) (at_turn s o h m n f Null)) (sym c)
+    let end = by_node {seen = []} (length s.records) o this (Ev test) (at_turn s o h m n f Null) (frame_of m n f Null) 20 [] [] [] [] 3 (Gave (Normal (Truth false))) _ top (omega (arith, long)) below tt tt tt (assumption (seam s.records (act o (frame_of m n f Null)) (act o (frame_of m n f Null)))) in
+    subst (λ z. Quiet test body (record { this = this; innermost = length s.records }) (at_turn s o h m n f z) 3 (Gave (Normal Undefined)) (at_turn s o h m n f Null)) (sym c)
     (loop_ends test body (record { this = this; innermost = length s.records }) _ _ 3 (Truth false) end refl)
 loops (l ∷ ls) s o h this m n f v below a (p, w, q, r) =
     let ps = frame_of m n f (Obj l) in
     let long = length-append s.records (act o ps ∷ []) in
     let top = Memory.record_new s.records (act o ps) in
     let apart = unless (bytes_eq n next_name || is_length next_name) (l ≢ l) (ap (λ b. b || is_length next_name) a.1) in
-    let tested = by_node (length s.records) o this (Ev test) (at_turn s o h m n f (Obj l)) ps 20 [] [] [] [] 3 (Gave (Normal (Truth true))) _ top (omega (arith, long)) below tt tt tt (assumption (seam s.records (act o ps) (act o ps))) in
-    let done = by_node (length s.records) o this (Do body) (at_turn s o h m n f (Obj l)) ps 20 [] (Own l next_name w ∷ []) (99 ∷ 0 ∷ []) [] 13 (Gave (Normal Undefined)) (at_turn s o (write h l n f) m n f w) top (omega (arith, long)) below tt tt (q, tt) (assumption (a.0, apart, seam s.records (act o ps) (act o (frame_of m n f w)))) in
+    let tested = by_node {seen = []} (length s.records) o this (Ev test) (at_turn s o h m n f (Obj l)) ps 20 [] [] [] [] 3 (Gave (Normal (Truth true))) _ top (omega (arith, long)) below tt tt tt (assumption (seam s.records (act o ps) (act o ps))) in
+    let done = by_node {seen = []} (length s.records) o this (Do body) (at_turn s o h m n f (Obj l)) ps 20 [] (Own l next_name w ∷ []) (99 ∷ 0 ∷ []) [] 13 (Gave (Normal Undefined)) (at_turn s o (write h l n f) m n f w) top (omega (arith, long)) below tt tt (q, tt) (assumption (a.0, apart, seam s.records (act o ps) (act o (frame_of m n f w)))) in
     let rest = loops ls s o (write h l n f) this m n f w below a (links_written ls h w l n f a r) in
     let whole = loop_goes test body (record { this = this; innermost = length s.records }) _ _ _ _ 3 13 (3 + 16 * length ls) (Truth true) Undefined (Gave (Normal Undefined)) tested refl done rest in
-    subst (λ z. Loop test body (record { this = this; innermost = length s.records }) (at_turn s o h m n f z) (3 + 16 * length (l ∷ ls)) (Gave (Normal Undefined)) (at_turn s o (write_all h (l ∷ ls) n f) m n f Null)) (sym p)
-    (subst (λ j. Loop test body (record { this = this; innermost = length s.records }) (at_turn s o h m n f (Obj l)) j (Gave (Normal Undefined)) (at_turn s o (write_all h (l ∷ ls) n f) m n f Null)) {x = 3 + (13 + (3 + 16 * length ls))} {y = 3 + 16 * length (l ∷ ls)} (omega arith) whole)
+    subst (λ z. Quiet test body (record { this = this; innermost = length s.records }) (at_turn s o h m n f z) (3 + 16 * length (l ∷ ls)) (Gave (Normal Undefined)) (at_turn s o (write_all h (l ∷ ls) n f) m n f Null)) (sym p)
+    (subst (λ j. Quiet test body (record { this = this; innermost = length s.records }) (at_turn s o h m n f (Obj l)) j (Gave (Normal Undefined)) (at_turn s o (write_all h (l ∷ ls) n f) m n f Null)) {x = 3 + (13 + (3 + 16 * length ls))} {y = 3 + 16 * length (l ∷ ls)} (omega arith) whole)
 
 pub defines : Defines
 unfolding stepping
@@ -90,9 +90,9 @@ defines p d o m n f first ls this s fn below a own c =
     let top = Memory.record_new s.records (act o qs) in
     let l : length s.records < length (s.records ++ act o qs ∷ []) = omega (arith, long) in
     let u : 5 + (3 + 16 * length ls) ≡ 8 + 16 * length ls = omega arith in
-    let here_loop = subst (λ Z. Loop test body (record { this = this; innermost = length s.records }) (record s { records = Z }) (3 + 16 * length ls) (Gave (Normal Undefined)) (at_turn s o (write_all s.heap ls n f) (Obj m) n f Null)) (sym (seam s.records (act o start) (act o ps))) loop in
+    let here_loop = subst (λ Z. Quiet test body (record { this = this; innermost = length s.records }) (record s { records = Z }) (3 + 16 * length ls) (Gave (Normal Undefined)) (at_turn s o (write_all s.heap ls n f) (Obj m) n f Null)) (sym (seam s.records (act o start) (act o ps))) loop in
     by_call p d o define_code this (Obj m ∷ Str n ∷ f ∷ []) (codes "l" ∷ []) s 20 [] (Own m (codes "$$own") first ∷ []) (0 ∷ [])
-    (record { units = 3 + 16 * length ls; end = Gave (Normal Undefined); heap = write_all s.heap ls n f; records = s.records ++ act o qs ∷ []; frame = qs; facts = []; values = []; rest = rest_of s } ∷ [])
+    (record { units = 3 + 16 * length ls; end = Gave (Normal Undefined); heap = write_all s.heap ls n f; records = s.records ++ act o qs ∷ []; frame = qs; facts = []; values = []; rest = rest_of s; seen = [] } ∷ [])
     (8 + 16 * length ls) (Gave (Normal Undefined)) _ fn refl define_own below tt (own, tt)
     (assumption (here_loop, top, l, u, seam s.records (act o qs) (act o qs)))
 

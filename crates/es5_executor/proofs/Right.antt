@@ -1,5 +1,5 @@
 -- The executor is right, node by node.
-use Rattle.std.proofs.Common.{◌≡◌, ℕ, zero, suc, ◌+◌, ◌<◌, Bool, true, false, if◌then◌else◌, List, [], ◌∷◌, ◌++◌, length, Option, Some, None, pos, refl, sym, ap, subst, ◌∙◌, arith, ℤ, ◌+ℤ◌, ◌-ℤ◌, ◌*ℤ◌, int_div, int_rem}
+use Rattle.std.proofs.Common.{nat_le, append-nil, append_assoc, ◌≡◌, ℕ, zero, suc, ◌+◌, ◌<◌, Bool, true, false, if◌then◌else◌, List, [], ◌∷◌, ◌++◌, length, Option, Some, None, pos, refl, sym, ap, subst, ◌∙◌, arith, ℤ, ◌+ℤ◌, ◌-ℤ◌, ◌*ℤ◌, int_div, int_rem}
 use Rattle.std.proofs.lemmas.List.{set-get_or}
 use Rattle.opal_base.specs.declared.place.Pos.{Pos}
 use Rattle.es5_tree.specs.declared.tree.Operator.{Operator}
@@ -12,14 +12,15 @@ use Rattle.es5_tree.specs.Objects.Links.{get}
 use Rattle.es5_tree.specs.Intrinsics.Made.{function_prototype, number_prototype, truth_prototype, text_prototype}
 use Rattle.es5_evaluation.specs.State.{Code, State, record_at, set_record, value_in}
 use Rattle.es5_evaluation.specs.Task.{Place, Property, Completion, Normal, Refers, Return, Throw, Break, Continue, Request, Task, Done, Ask, Make, ◌>>=◌, walk}
-use Rattle.es5_evaluation.specs.Values.{Result, Is, Out, truthy, key_of, type_name, kind_name, negated, binary, is_zero, or_undefined, in_range, quotient, remainder}
+use Rattle.es5_evaluation.specs.Values.{Result, Is, Out, largest, truthy, key_of, type_name, kind_name, negated, binary, is_zero, or_undefined, in_range, quotient, remainder}
 use Rattle.es5_evaluation.specs.Values as values
 use Rattle.es5_evaluation.specs.Evaluate.{perform, read_name, write_name, read_property, write_property, access, ItsPlace, normally, referred, make_function, operated}
 use Rattle.es5_evaluation.specs.Run.{run}
 use Rattle.es5_rules.specs.Moments.{moments, moments_by}
-use Rattle.es5_executor.specs.Runs.{End, Gave, Outside, after, Leads, look, Takes}
+use Rattle.es5_rules.proofs.Steps.{steps_count}
+use Rattle.es5_executor.specs.Runs.{End, Gave, Outside, after, Leads, look, TakesSeen}
 use Rattle.es5_executor.specs.Memory.{Heap, Records, Frame, has, write, assign, bound_from, value_by, Outer}
-use Rattle.es5_executor.proofs.Runs.{sequence_is, stays, silent, begins}
+use Rattle.es5_executor.proofs.Runs.{sequence_is, stays, silent, silently, begins}
 use Rattle.es5_executor.proofs.Memory
 use Rattle.es5_executor.proofs.Sym
 use Rattle.es5_executor.proofs.Sym.{Fact, Own, Seen, Lacks, IsKind, FactIs, Facts, Outers, Away, fact_at, outer_at, rewritten, revalued, Writes, news, Rest, Known, Here, Cont, Node, Ev, Rf, Do, Nodes, No, on, on_place, Hinted, Choice, Test, VarIs, SetIs, SeenAt, KindAt, fits, act, here, there}
@@ -58,11 +59,13 @@ module _ (r o : ℕ) where
 
   pub record Reached (T : Code') (K : Cont) (σ : Sit) : Type 0 where
     pub units : ℕ
+    pub seen : List State
     pub end : End
     pub sit : Sit
-    pub leads : (k : Completion → Task) → Leads units (T k) (real σ) (after end k) (real sit)
+    pub leads : (k : Completion → Task) → Leads units (T k) (real σ) (after end k) (real sit) seen
     pub valid : Valid sit
     pub count : sit.units ≡ σ.units + units
+    pub sees : sit.rest.seen ≡ σ.rest.seen ++ seen
     pub so : at (K end) sit
 
   abbrev pub Right : Code' → (Cont → Here) → Type 1
@@ -73,23 +76,27 @@ module _ (r o : ℕ) where
   pub over : (T : Code') (e : End) → ((k : Completion → Task) → T k ≡ after e k) → Right T (λ K. K e)
   over T e same K σ v x = record {
     units = 0;
+    seen = [];
     end = e;
     sit = σ;
-    leads = λ k. subst (λ t. Leads 0 t (real σ) (after e k) (real σ)) (sym (same k)) (stays (after e k) (real σ));
+    leads = λ k. subst (λ t. Leads 0 t (real σ) (after e k) (real σ) []) (sym (same k)) (stays (after e k) (real σ));
     valid = v;
     count = omega arith;
+    sees = sym (append-nil σ.rest.seen);
     so = x;
   }
 
   -- a step without a unit comes to an end in another situation
-  pub stepped : (T : Code') (e : End) (K : Cont) (σ σ1 : Sit) → ((k : Completion → Task) (g : ℕ) → look g (T k) (real σ) ≡ look g (after e k) (real σ1)) → σ1.units ≡ σ.units → Valid σ1 → at (K e) σ1 → Reached T K σ
-  stepped T e K σ σ1 f u v x = record {
+  pub stepped : (T : Code') (e : End) (K : Cont) (σ σ1 : Sit) → ((k : Completion → Task) (g : ℕ) → look g (T k) (real σ) ≡ look g (after e k) (real σ1)) → σ1.units ≡ σ.units → σ1.rest.seen ≡ σ.rest.seen → Valid σ1 → at (K e) σ1 → Reached T K σ
+  stepped T e K σ σ1 f u w v x = record {
     units = 0;
+    seen = [];
     end = e;
     sit = σ1;
     leads = λ k. silent (T k) (after e k) (real σ) (real σ1) (f k);
     valid = v;
     count = omega (arith, u);
+    sees = w ∙ sym (append-nil σ.rest.seen);
     so = x;
   }
 
@@ -97,23 +104,27 @@ module _ (r o : ℕ) where
   pub as_code : (T U : Code') (K : Cont) (σ : Sit) → ((k : Completion → Task) (g : ℕ) → look g (T k) (real σ) ≡ look g (U k) (real σ)) → Reached U K σ → Reached T K σ
   as_code T U K σ f a = record {
     units = a.units;
+    seen = a.seen;
     end = a.end;
     sit = a.sit;
-    leads = λ k. subst (λ n. Leads n (T k) (real σ) (after a.end k) (real a.sit)) {x = 0 + a.units} {y = a.units} (omega arith) (sequence_is (T k) (U k) (after a.end k) (real σ) (real σ) (real a.sit) 0 a.units (silent (T k) (U k) (real σ) (real σ) (f k)) (a.leads k));
+    leads = λ k. silently (silent (T k) (U k) (real σ) (real σ) (f k)) (a.leads k);
     valid = a.valid;
     count = a.count;
+    sees = a.sees;
     so = a.so;
   }
 
   -- one after another
-  joined : (T U V : Code') (K L : Cont) (σ : Sit) (a : Reached T L σ) (g : Completion → Task) → ((k : Completion → Task) → Leads a.units (V k) (real σ) (U k) (real a.sit)) → Reached U K a.sit → Reached V K σ
+  joined : (T U V : Code') (K L : Cont) (σ : Sit) (a : Reached T L σ) (g : Completion → Task) → ((k : Completion → Task) → Leads a.units (V k) (real σ) (U k) (real a.sit) a.seen) → Reached U K a.sit → Reached V K σ
   joined T U V K L σ a g f b = record {
     units = a.units + b.units;
+    seen = a.seen ++ b.seen;
     end = b.end;
     sit = b.sit;
-    leads = λ k. sequence_is (V k) (U k) (after b.end k) (real σ) (real a.sit) (real b.sit) a.units b.units (f k) (b.leads k);
+    leads = λ k. sequence_is (V k) (U k) (after b.end k) (real σ) (real a.sit) (real b.sit) a.units b.units a.seen b.seen (f k) (b.leads k);
     valid = b.valid;
     count = let p = a.count in let q = b.count in omega (arith, p, q);
+    sees = b.sees ∙ ap (λ l. l ++ b.seen) a.sees ∙ append_assoc σ.rest.seen a.seen b.seen;
     so = b.so;
   }
 
@@ -122,13 +133,13 @@ module _ (r o : ℕ) where
   bind T H F G f g K σ v x = go (f (on (λ w. G w K) K) σ v x)
     where
       end_of : (a : Reached T (on (λ w. G w K) K) σ) (e : End) → a.end ≡ e → at (on (λ w. G w K) K e) a.sit → Reached (λ k. T (λ c. normally F c >>= k)) K σ
-      end_of a (Gave (Normal w)) p s = joined T (λ k. F w >>= k) (λ k. T (λ c. normally F c >>= k)) K (on (λ w. G w K) K) σ a Done (λ k. subst (λ e. Leads a.units (T (λ c. normally F c >>= k)) (real σ) (after e (λ c. normally F c >>= k)) (real a.sit)) p (a.leads (λ c. normally F c >>= k))) (g w K a.sit a.valid s)
-      end_of a (Gave (Refers q)) p s = record { units = a.units; end = Gave (Refers q); sit = a.sit; leads = λ k. subst (λ e. Leads a.units (T (λ c. normally F c >>= k)) (real σ) (after e (λ c. normally F c >>= k)) (real a.sit)) p (a.leads (λ c. normally F c >>= k)); valid = a.valid; count = a.count; so = s }
-      end_of a (Gave (Return w)) p s = record { units = a.units; end = Gave (Return w); sit = a.sit; leads = λ k. subst (λ e. Leads a.units (T (λ c. normally F c >>= k)) (real σ) (after e (λ c. normally F c >>= k)) (real a.sit)) p (a.leads (λ c. normally F c >>= k)); valid = a.valid; count = a.count; so = s }
-      end_of a (Gave (Throw w)) p s = record { units = a.units; end = Gave (Throw w); sit = a.sit; leads = λ k. subst (λ e. Leads a.units (T (λ c. normally F c >>= k)) (real σ) (after e (λ c. normally F c >>= k)) (real a.sit)) p (a.leads (λ c. normally F c >>= k)); valid = a.valid; count = a.count; so = s }
-      end_of a (Gave Break) p s = record { units = a.units; end = Gave Break; sit = a.sit; leads = λ k. subst (λ e. Leads a.units (T (λ c. normally F c >>= k)) (real σ) (after e (λ c. normally F c >>= k)) (real a.sit)) p (a.leads (λ c. normally F c >>= k)); valid = a.valid; count = a.count; so = s }
-      end_of a (Gave Continue) p s = record { units = a.units; end = Gave Continue; sit = a.sit; leads = λ k. subst (λ e. Leads a.units (T (λ c. normally F c >>= k)) (real σ) (after e (λ c. normally F c >>= k)) (real a.sit)) p (a.leads (λ c. normally F c >>= k)); valid = a.valid; count = a.count; so = s }
-      end_of a (Outside q z) p s = record { units = a.units; end = Outside q z; sit = a.sit; leads = λ k. subst (λ e. Leads a.units (T (λ c. normally F c >>= k)) (real σ) (after e (λ c. normally F c >>= k)) (real a.sit)) p (a.leads (λ c. normally F c >>= k)); valid = a.valid; count = a.count; so = s }
+      end_of a (Gave (Normal w)) p s = joined T (λ k. F w >>= k) (λ k. T (λ c. normally F c >>= k)) K (on (λ w. G w K) K) σ a Done (λ k. subst (λ e. Leads a.units (T (λ c. normally F c >>= k)) (real σ) (after e (λ c. normally F c >>= k)) (real a.sit) a.seen) p (a.leads (λ c. normally F c >>= k))) (g w K a.sit a.valid s)
+      end_of a (Gave (Refers q)) p s = record { units = a.units; seen = a.seen; end = Gave (Refers q); sit = a.sit; leads = λ k. subst (λ e. Leads a.units (T (λ c. normally F c >>= k)) (real σ) (after e (λ c. normally F c >>= k)) (real a.sit) a.seen) p (a.leads (λ c. normally F c >>= k)); valid = a.valid; count = a.count; sees = a.sees; so = s }
+      end_of a (Gave (Return w)) p s = record { units = a.units; seen = a.seen; end = Gave (Return w); sit = a.sit; leads = λ k. subst (λ e. Leads a.units (T (λ c. normally F c >>= k)) (real σ) (after e (λ c. normally F c >>= k)) (real a.sit) a.seen) p (a.leads (λ c. normally F c >>= k)); valid = a.valid; count = a.count; sees = a.sees; so = s }
+      end_of a (Gave (Throw w)) p s = record { units = a.units; seen = a.seen; end = Gave (Throw w); sit = a.sit; leads = λ k. subst (λ e. Leads a.units (T (λ c. normally F c >>= k)) (real σ) (after e (λ c. normally F c >>= k)) (real a.sit) a.seen) p (a.leads (λ c. normally F c >>= k)); valid = a.valid; count = a.count; sees = a.sees; so = s }
+      end_of a (Gave Break) p s = record { units = a.units; seen = a.seen; end = Gave Break; sit = a.sit; leads = λ k. subst (λ e. Leads a.units (T (λ c. normally F c >>= k)) (real σ) (after e (λ c. normally F c >>= k)) (real a.sit) a.seen) p (a.leads (λ c. normally F c >>= k)); valid = a.valid; count = a.count; sees = a.sees; so = s }
+      end_of a (Gave Continue) p s = record { units = a.units; seen = a.seen; end = Gave Continue; sit = a.sit; leads = λ k. subst (λ e. Leads a.units (T (λ c. normally F c >>= k)) (real σ) (after e (λ c. normally F c >>= k)) (real a.sit) a.seen) p (a.leads (λ c. normally F c >>= k)); valid = a.valid; count = a.count; sees = a.sees; so = s }
+      end_of a (Outside q z) p s = record { units = a.units; seen = a.seen; end = Outside q z; sit = a.sit; leads = λ k. subst (λ e. Leads a.units (T (λ c. normally F c >>= k)) (real σ) (after e (λ c. normally F c >>= k)) (real a.sit) a.seen) p (a.leads (λ c. normally F c >>= k)); valid = a.valid; count = a.count; sees = a.sees; so = s }
 
       go : (a : Reached T (on (λ w. G w K) K) σ) → Reached (λ k. T (λ c. normally F c >>= k)) K σ
       go a = end_of a a.end refl a.so
@@ -138,13 +149,13 @@ module _ (r o : ℕ) where
   bind_place T H P F I G f i g K σ v x = go (f (on_place (λ q. I q K) (λ w. G w K) K) σ v x)
     where
       end_of : (a : Reached T (on_place (λ q. I q K) (λ w. G w K) K) σ) (e : End) → a.end ≡ e → at (on_place (λ q. I q K) (λ w. G w K) K e) a.sit → Reached (λ k. T (λ c. referred P F c >>= k)) K σ
-      end_of a (Gave (Normal w)) p s = joined T (λ k. F w >>= k) (λ k. T (λ c. referred P F c >>= k)) K (on_place (λ q. I q K) (λ w. G w K) K) σ a Done (λ k. subst (λ e. Leads a.units (T (λ c. referred P F c >>= k)) (real σ) (after e (λ c. referred P F c >>= k)) (real a.sit)) p (a.leads (λ c. referred P F c >>= k))) (g w K a.sit a.valid s)
-      end_of a (Gave (Refers q)) p s = joined T (λ k. P q >>= k) (λ k. T (λ c. referred P F c >>= k)) K (on_place (λ q. I q K) (λ w. G w K) K) σ a Done (λ k. subst (λ e. Leads a.units (T (λ c. referred P F c >>= k)) (real σ) (after e (λ c. referred P F c >>= k)) (real a.sit)) p (a.leads (λ c. referred P F c >>= k))) (i q K a.sit a.valid s)
-      end_of a (Gave (Return w)) p s = record { units = a.units; end = Gave (Return w); sit = a.sit; leads = λ k. subst (λ e. Leads a.units (T (λ c. referred P F c >>= k)) (real σ) (after e (λ c. referred P F c >>= k)) (real a.sit)) p (a.leads (λ c. referred P F c >>= k)); valid = a.valid; count = a.count; so = s }
-      end_of a (Gave (Throw w)) p s = record { units = a.units; end = Gave (Throw w); sit = a.sit; leads = λ k. subst (λ e. Leads a.units (T (λ c. referred P F c >>= k)) (real σ) (after e (λ c. referred P F c >>= k)) (real a.sit)) p (a.leads (λ c. referred P F c >>= k)); valid = a.valid; count = a.count; so = s }
-      end_of a (Gave Break) p s = record { units = a.units; end = Gave Break; sit = a.sit; leads = λ k. subst (λ e. Leads a.units (T (λ c. referred P F c >>= k)) (real σ) (after e (λ c. referred P F c >>= k)) (real a.sit)) p (a.leads (λ c. referred P F c >>= k)); valid = a.valid; count = a.count; so = s }
-      end_of a (Gave Continue) p s = record { units = a.units; end = Gave Continue; sit = a.sit; leads = λ k. subst (λ e. Leads a.units (T (λ c. referred P F c >>= k)) (real σ) (after e (λ c. referred P F c >>= k)) (real a.sit)) p (a.leads (λ c. referred P F c >>= k)); valid = a.valid; count = a.count; so = s }
-      end_of a (Outside q z) p s = record { units = a.units; end = Outside q z; sit = a.sit; leads = λ k. subst (λ e. Leads a.units (T (λ c. referred P F c >>= k)) (real σ) (after e (λ c. referred P F c >>= k)) (real a.sit)) p (a.leads (λ c. referred P F c >>= k)); valid = a.valid; count = a.count; so = s }
+      end_of a (Gave (Normal w)) p s = joined T (λ k. F w >>= k) (λ k. T (λ c. referred P F c >>= k)) K (on_place (λ q. I q K) (λ w. G w K) K) σ a Done (λ k. subst (λ e. Leads a.units (T (λ c. referred P F c >>= k)) (real σ) (after e (λ c. referred P F c >>= k)) (real a.sit) a.seen) p (a.leads (λ c. referred P F c >>= k))) (g w K a.sit a.valid s)
+      end_of a (Gave (Refers q)) p s = joined T (λ k. P q >>= k) (λ k. T (λ c. referred P F c >>= k)) K (on_place (λ q. I q K) (λ w. G w K) K) σ a Done (λ k. subst (λ e. Leads a.units (T (λ c. referred P F c >>= k)) (real σ) (after e (λ c. referred P F c >>= k)) (real a.sit) a.seen) p (a.leads (λ c. referred P F c >>= k))) (i q K a.sit a.valid s)
+      end_of a (Gave (Return w)) p s = record { units = a.units; seen = a.seen; end = Gave (Return w); sit = a.sit; leads = λ k. subst (λ e. Leads a.units (T (λ c. referred P F c >>= k)) (real σ) (after e (λ c. referred P F c >>= k)) (real a.sit) a.seen) p (a.leads (λ c. referred P F c >>= k)); valid = a.valid; count = a.count; sees = a.sees; so = s }
+      end_of a (Gave (Throw w)) p s = record { units = a.units; seen = a.seen; end = Gave (Throw w); sit = a.sit; leads = λ k. subst (λ e. Leads a.units (T (λ c. referred P F c >>= k)) (real σ) (after e (λ c. referred P F c >>= k)) (real a.sit) a.seen) p (a.leads (λ c. referred P F c >>= k)); valid = a.valid; count = a.count; sees = a.sees; so = s }
+      end_of a (Gave Break) p s = record { units = a.units; seen = a.seen; end = Gave Break; sit = a.sit; leads = λ k. subst (λ e. Leads a.units (T (λ c. referred P F c >>= k)) (real σ) (after e (λ c. referred P F c >>= k)) (real a.sit) a.seen) p (a.leads (λ c. referred P F c >>= k)); valid = a.valid; count = a.count; sees = a.sees; so = s }
+      end_of a (Gave Continue) p s = record { units = a.units; seen = a.seen; end = Gave Continue; sit = a.sit; leads = λ k. subst (λ e. Leads a.units (T (λ c. referred P F c >>= k)) (real σ) (after e (λ c. referred P F c >>= k)) (real a.sit) a.seen) p (a.leads (λ c. referred P F c >>= k)); valid = a.valid; count = a.count; sees = a.sees; so = s }
+      end_of a (Outside q z) p s = record { units = a.units; seen = a.seen; end = Outside q z; sit = a.sit; leads = λ k. subst (λ e. Leads a.units (T (λ c. referred P F c >>= k)) (real σ) (after e (λ c. referred P F c >>= k)) (real a.sit) a.seen) p (a.leads (λ c. referred P F c >>= k)); valid = a.valid; count = a.count; sees = a.sees; so = s }
 
       go : (a : Reached T (on_place (λ q. I q K) (λ w. G w K) K) σ) → Reached (λ k. T (λ c. referred P F c >>= k)) K σ
       go a = end_of a a.end refl a.so
@@ -154,8 +165,8 @@ module _ (r o : ℕ) where
   bind_end T H F G out f g K σ v x = go (f (G K) σ v x)
     where
       end_of : (a : Reached T (G K) σ) (e : End) → a.end ≡ e → at (G K e) a.sit → Reached (λ k. T (λ c. F c >>= k)) K σ
-      end_of a (Gave c) p s = joined T (λ k. F c >>= k) (λ k. T (λ c. F c >>= k)) K (G K) σ a Done (λ k. subst (λ e. Leads a.units (T (λ c. F c >>= k)) (real σ) (after e (λ c. F c >>= k)) (real a.sit)) p (a.leads (λ c. F c >>= k))) (g c K a.sit a.valid s)
-      end_of a (Outside q z) p s = record { units = a.units; end = Outside q z; sit = a.sit; leads = λ k. subst (λ e. Leads a.units (T (λ c. F c >>= k)) (real σ) (after e (λ c. F c >>= k)) (real a.sit)) p (a.leads (λ c. F c >>= k)); valid = a.valid; count = a.count; so = subst (λ Z. at Z a.sit) (out K q z) s }
+      end_of a (Gave c) p s = joined T (λ k. F c >>= k) (λ k. T (λ c. F c >>= k)) K (G K) σ a Done (λ k. subst (λ e. Leads a.units (T (λ c. F c >>= k)) (real σ) (after e (λ c. F c >>= k)) (real a.sit) a.seen) p (a.leads (λ c. F c >>= k))) (g c K a.sit a.valid s)
+      end_of a (Outside q z) p s = record { units = a.units; seen = a.seen; end = Outside q z; sit = a.sit; leads = λ k. subst (λ e. Leads a.units (T (λ c. F c >>= k)) (real σ) (after e (λ c. F c >>= k)) (real a.sit) a.seen) p (a.leads (λ c. F c >>= k)); valid = a.valid; count = a.count; sees = a.sees; so = subst (λ Z. at Z a.sit) (out K q z) s }
 
       go : (a : Reached T (G K) σ) → Reached (λ k. T (λ c. F c >>= k)) K σ
       go a = end_of a a.end refl a.so
@@ -173,7 +184,7 @@ module _ (r o : ℕ) where
       go [] y = absurd y
       go (i ∷ hs) y =
           let a = f i K (record σ { hints = hs }) (record { within = v.within; below = v.below; facts = v.facts; outers = v.outers; away = v.away }) y in
-          record { units = a.units; end = a.end; sit = a.sit; leads = a.leads; valid = a.valid; count = a.count; so = a.so }
+          record { units = a.units; seen = a.seen; end = a.end; sit = a.sit; leads = a.leads; valid = a.valid; count = a.count; sees = a.sees; so = a.so }
 
   pub tested : (T : Bool → Code') (b : Bool) (F G : Cont → Here) → Right (T true) F → Right (T false) G → Right (T b) (λ K. Test b (F K) (G K))
   unfolding Test Choice
@@ -190,12 +201,12 @@ module _ (r o : ℕ) where
   var_right x K σ v h = go (find_own σ.frame x) refl (outer_at σ.fars x) refl h
     where
       go : (a : Option Val) → find_own σ.frame x ≡ a → (u : Option Outer) → outer_at σ.fars x ≡ u → at (VarIs a u (λ w. K (Gave (Normal w)))) σ → Reached (λ k. read_name r x >>= k) K σ
-      go (Some w) e u f y = stepped _ (Gave (Normal w)) K σ σ (λ k g. Sound.name_read r (real σ) x r w k g (Sound.own_binding σ.records r o σ.frame v.within v.below x w e) (Sound.own_value σ.records r o σ.frame v.within v.below x w e)) refl v y
+      go (Some w) e u f y = stepped _ (Gave (Normal w)) K σ σ (λ k g. Sound.name_read r (real σ) x r w k g (Sound.own_binding σ.records r o σ.frame v.within v.below x w e) (Sound.own_value σ.records r o σ.frame v.within v.below x w e)) refl refl v y
       go None e None f y = absurd y
       go None e (Some u) f y =
           let w = Sound.find_outer (set_record σ.records r (act o σ.frame)) r o σ.fars x u v.outers v.away f in
           let b = subst (λ z. bound_from (set_record σ.records r (act o σ.frame)) o z ≡ Some u.at) w.name w.is.0 in
-          stepped _ (Gave (Normal u.val)) K σ σ (λ k g. Sound.name_read r (real σ) x u.at u.val k g (Sound.far_binding σ.records r o σ.frame v.within v.below x u.at e b) (subst (λ z. value_in (record_at (set_record σ.records r (act o σ.frame)) u.at) z ≡ Some u.val) w.name (Sound.known_value u.free _ u.name u.val w.is.1))) refl v y
+          stepped _ (Gave (Normal u.val)) K σ σ (λ k g. Sound.name_read r (real σ) x u.at u.val k g (Sound.far_binding σ.records r o σ.frame v.within v.below x u.at e b) (subst (λ z. value_in (record_at (set_record σ.records r (act o σ.frame)) u.at) z ≡ Some u.val) w.name (Sound.known_value u.free _ u.name u.val w.is.1))) refl refl v y
 
   pub set_var_right : (x : Text) (a : Val) → Right (λ k. write_name r x a >>= k) (Sym.set_var x a)
   unfolding Sym.set_var SetIs
@@ -208,7 +219,7 @@ module _ (r o : ℕ) where
           stepped _ (Gave (Normal a)) K σ σ1
           (λ k g. Sound.name_written r (real σ) x r a w k g (Sound.own_binding σ.records r o σ.frame v.within v.below x w e) (ap (λ z. find_own z.variables x) top ∙ e)
           ∙ ap (λ Z. look g (k (Normal a)) (record (real σ) { records = Z })) (Sound.own_store σ.records r o σ.frame v.within v.below x a))
-          refl
+          refl refl
           (record { within = v.within; below = v.below; facts = v.facts; outers = Sound.outers_kept (set_record σ.records r (act o σ.frame)) (set_record σ.records r (act o σ1.frame)) r o σ.fars (Sound.own_alike σ.records r o σ.frame v.within v.below x a w e) (λ b d. Sound.own_apart σ.records r o σ.frame v.within v.below x a b d) v.away v.outers; away = v.away }) y
       go None e None f y = absurd y
       go None e (Some u) f y =
@@ -222,7 +233,7 @@ module _ (r o : ℕ) where
           stepped _ (Gave (Normal a)) K σ σ1
           (λ k g. Sound.name_written r (real σ) x u.at a u.val k g (Sound.far_binding σ.records r o σ.frame v.within v.below x u.at e b) val
           ∙ ap (λ Z. look g (k (Normal a)) (record (real σ) { records = Z })) st)
-          refl
+          refl refl
           (record { within = let l = Memory.assign_length σ.records u.at x a in let q = v.within in omega (arith, l, q); below = v.below; facts = v.facts; outers = subst (λ Z. Outers Z o (rewritten σ.fars x a)) st (Sound.outers_written S o u.at x a u.val σ.fars b val inside v.outers); away = Sound.away_same r σ.fars x a v.away }) y.1
 
   -- ---- properties
@@ -242,17 +253,23 @@ module _ (r o : ℕ) where
           go (Some (IsKind b n)) e y = absurd y
 
   pub prop_right : (b : Val) (m : Text) → Right (λ k. read_property b m >>= k) (Sym.prop b m)
-  unfolding Sym.prop Sym.If read_property run walk moments moments_by ◌>>=◌
+  unfolding Sym.prop Sym.Pick Sym.NoIndex read_property run walk moments moments_by ◌>>=◌
   prop_right Undefined m K σ v x = never _ K σ v x
   prop_right Null m K σ v x = never _ K σ v x
-  prop_right (Truth t) m K σ v x = use_fact truth_prototype m (λ k. read_property (Truth t) m >>= k) (λ K σ w v e y. stepped _ (Gave (Normal w)) K σ σ (λ k g. ap (λ z. look g (k (Normal (or_undefined z))) (real σ)) e) refl v y) K σ v x
-  prop_right (Num z) m K σ v x = use_fact number_prototype m (λ k. read_property (Num z) m >>= k) (λ K σ w v e y. stepped _ (Gave (Normal w)) K σ σ (λ k g. ap (λ z. look g (k (Normal (or_undefined z))) (real σ)) e) refl v y) K σ v x
-  prop_right (Obj a) m K σ v x = use_fact a m (λ k. read_property (Obj a) m >>= k) (λ K σ w v e y. stepped _ (Gave (Normal w)) K σ σ (λ k g. ap (λ z. look g (k (Normal (or_undefined z))) (real σ)) e) refl v y) K σ v x
+  prop_right (Truth t) m K σ v x = use_fact truth_prototype m (λ k. read_property (Truth t) m >>= k) (λ K σ w v e y. stepped _ (Gave (Normal w)) K σ σ (λ k g. ap (λ z. look g (k (Normal (or_undefined z))) (real σ)) e) refl refl v y) K σ v x
+  prop_right (Num z) m K σ v x = use_fact number_prototype m (λ k. read_property (Num z) m >>= k) (λ K σ w v e y. stepped _ (Gave (Normal w)) K σ σ (λ k g. ap (λ z. look g (k (Normal (or_undefined z))) (real σ)) e) refl refl v y) K σ v x
+  prop_right (Obj a) m K σ v x = use_fact a m (λ k. read_property (Obj a) m >>= k) (λ K σ w v e y. stepped _ (Gave (Normal w)) K σ σ (λ k g. ap (λ z. look g (k (Normal (or_undefined z))) (real σ)) e) refl refl v y) K σ v x
   prop_right (Str t) m K σ v x = go (is_length m) refl x
     where
-      go : (q : Bool) → is_length m ≡ q → at (Sym.If q (K (Gave (Normal (Num (pos (length t))))))) σ → Reached (λ k. read_property (Str t) m >>= k) K σ
-      go true e y = stepped _ (Gave (Normal (Num (pos (length t))))) K σ σ (λ k g. ap (λ q. look g (k (Normal (or_undefined (first (if q then Some (Num (pos (length t))) else values.unit_at t (index_of m)) (λ u. get σ.heap text_prototype m))))) (real σ)) e) refl v y
-      go false e y = never _ K σ v y
+      method : is_length m ≡ false → index_of m ≡ None → (K : Cont) (σ : Sit) (w : Val) → Valid σ → get σ.heap text_prototype m ≡ Some w → at (K (Gave (Normal w))) σ → Reached (λ k. read_property (Str t) m >>= k) K σ
+      method p q K σ w v e y = stepped _ (Gave (Normal w)) K σ σ (λ k g.
+          ap (λ a. look g (k (Normal (or_undefined (first (if a then Some (Num (pos (length t))) else values.unit_at t (index_of m)) (λ u. get σ.heap text_prototype m))))) (real σ)) p
+          ∙ ap (λ a. look g (k (Normal (or_undefined (first (values.unit_at t a) (λ u. get σ.heap text_prototype m))))) (real σ)) q
+          ∙ ap (λ z. look g (k (Normal (or_undefined z))) (real σ)) e) refl refl v y
+
+      go : (q : Bool) → is_length m ≡ q → at (Sym.Pick q (K (Gave (Normal (Num (pos (length t)))))) (Sym.NoIndex m (Hinted (λ i. Sym.seen_by i text_prototype m (λ v. K (Gave (Normal v))))))) σ → Reached (λ k. read_property (Str t) m >>= k) K σ
+      go true e y = stepped _ (Gave (Normal (Num (pos (length t))))) K σ σ (λ k g. ap (λ q. look g (k (Normal (or_undefined (first (if q then Some (Num (pos (length t))) else values.unit_at t (index_of m)) (λ u. get σ.heap text_prototype m))))) (real σ)) e) refl refl v y
+      go false e y = use_fact text_prototype m (λ k. read_property (Str t) m >>= k) (method e y.0) K σ v y.1
 
   pub placed_right : (b : Val) (m : Text) → Right (λ k. access ItsPlace b m >>= k) (Sym.placed b m)
   unfolding Sym.placed access ◌>>=◌
@@ -268,7 +285,7 @@ module _ (r o : ℕ) where
   put_right p a m w i K σ v x =
       let g = Sound.writes σ.heap a m w i σ.facts _ x.0 v.facts x.1 in
       let σ1 = record σ { heap = write σ.heap a m w; facts = g.facts } in
-      stepped _ (Gave (Normal w)) K σ σ1 (λ k j. Sound.property_written p (real σ) a m w k j x.0) refl
+      stepped _ (Gave (Normal w)) K σ σ1 (λ k j. Sound.property_written p (real σ) a m w k j x.0) refl refl
       (record { within = v.within; below = v.below; facts = g.are; outers = v.outers; away = v.away }) g.so
 
   pub set_prop_right : (p : Pos) (b : Val) (m : Text) (w : Val) → Right (λ k. write_property p b m w >>= k) (Sym.set_prop b m w)
@@ -286,35 +303,37 @@ module _ (r o : ℕ) where
   unfolding Sym.make run walk moments moments_by
   make_right c K σ v x =
       let σ1 = record σ { heap = σ.heap ++ c ∷ []; facts = σ.facts ++ news (length σ.heap) c c.properties } in
-      stepped _ (Gave (Normal (Obj (length σ.heap)))) K σ σ1 (λ k g. refl) refl
+      stepped _ (Gave (Normal (Obj (length σ.heap)))) K σ σ1 (λ k g. refl) refl refl
       (record { within = v.within; below = v.below; facts = Sound.facts_join _ σ.facts _ (Sound.facts_old σ.heap c σ.facts v.facts) (Sound.facts_new σ.heap c c.properties); outers = v.outers; away = v.away }) x
 
   pub function_right : (c : Code) → Right (λ k. make_function c r >>= k) (Sym.function r c)
   unfolding Sym.function Sym.make make_function run walk moments moments_by ◌>>=◌
   function_right c K σ v x =
       let cell = new_cell (Function (length σ.rest.codes) r) (Some function_prototype) in
-      let w1 : Rest = record { codes = σ.rest.codes ++ c ∷ []; lines = σ.rest.lines; calls = σ.rest.calls } in
+      let w1 : Rest = record { codes = σ.rest.codes ++ c ∷ []; lines = σ.rest.lines; calls = σ.rest.calls; seen = σ.rest.seen } in
       let σ1 = record σ { heap = σ.heap ++ cell ∷ []; facts = σ.facts ++ news (length σ.heap) cell cell.properties; rest = w1 } in
-      stepped _ (Gave (Normal (Obj (length σ.heap)))) K σ σ1 (λ k g. refl) refl
+      stepped _ (Gave (Normal (Obj (length σ.heap)))) K σ σ1 (λ k g. refl) refl refl
       (record { within = v.within; below = v.below; facts = Sound.facts_join _ σ.facts _ (Sound.facts_old σ.heap cell σ.facts v.facts) (Sound.facts_new σ.heap cell cell.properties); outers = v.outers; away = v.away }) x
 
   -- ---- calls and loops that are known
 
-  pub known_right : (this : Val) (t : Task) → Right (λ k. t >>= k) (Sym.known r o this (λ s m e s'. Takes t s m e s'))
+  pub known_right : (this : Val) (t : Task) → Right (λ k. t >>= k) (Sym.known r o this (λ s m e s' seen. TakesSeen t s m e s' seen))
   unfolding Sym.known record_at
   known_right this t K σ v x = go σ.subs x
     where
-      go : (cs : List Known) → Sym.known r o this (λ s m e s'. Takes t s m e s') K σ.hints cs σ.heap σ.records σ.frame σ.facts σ.fars σ.rest σ.units → Reached (λ k. t >>= k) K σ
+      go : (cs : List Known) → Sym.known r o this (λ s m e s' seen. TakesSeen t s m e s' seen) K σ.hints cs σ.heap σ.records σ.frame σ.facts σ.fars σ.rest σ.units → Reached (λ k. t >>= k) K σ
       go [] y = absurd y
       go (c ∷ cs) y =
           let same : set_record c.records r (act o c.frame) ≡ c.records = ap (λ a. set_record c.records r a) (sym y.1) ∙ set-get_or c.records r (record { variables = []; constants = []; outer = None }) in
           record {
             units = c.units;
+            seen = c.seen;
             end = c.end;
-            sit = record { hints = σ.hints; subs = cs; heap = c.heap; records = c.records; frame = c.frame; facts = c.facts; fars = revalued σ.fars c.values; rest = c.rest; units = σ.units + c.units };
-            leads = λ k. subst (λ Z. Leads c.units (t >>= k) (real σ) (after c.end k) (record { heap = c.heap; codes = c.rest.codes; records = Z; lines = c.rest.lines; calls = c.rest.calls })) (sym same) (y.0 k);
+            sit = record { hints = σ.hints; subs = cs; heap = c.heap; records = c.records; frame = c.frame; facts = c.facts; fars = revalued σ.fars c.values; rest = Sym.rest_after σ.rest c; units = σ.units + c.units };
+            leads = λ k. subst (λ Z. Leads c.units (t >>= k) (real σ) (after c.end k) (record { heap = c.heap; codes = c.rest.codes; records = Z; lines = c.rest.lines; calls = c.rest.calls }) c.seen) (sym same) (y.0 k);
             valid = record { within = y.2; below = v.below; facts = y.3; outers = subst (λ Z. Outers Z o (revalued σ.fars c.values)) (sym same) y.4; away = Sound.away_revalued r σ.fars c.values v.away };
             count = refl;
+            sees = refl;
             so = y.5;
           }
 
@@ -338,9 +357,16 @@ module _ (r o : ℕ) where
   unfolding Sym.rest Sym.Fails
   rest_right p m n K σ v x = subst (λ b. Reached (λ k. operated p (if b then Out Division else in_range (int_rem m n)) >>= k) K σ) (sym x.0) (ranged_right p (int_rem m n) K σ v x.1)
 
+  spelled_right : (p : Pos) (t : Text) → Right (λ k. operated p (values.of_length t) >>= k) (Sym.spelled p t)
+  unfolding Sym.spelled ◌>>=◌
+  spelled_right p t K σ v x = tested (λ b k. operated p (if b then Is (Str t) else Out Number) >>= k) (nat_le (length t) largest) (λ K. K (Gave (Normal (Str t)))) (λ K. K (Outside Number p)) (over _ (Gave (Normal (Str t))) (λ k. refl)) (over _ (Outside Number p) (λ k. refl)) K σ v x
+
   sum_right : (p : Pos) (a b : Val) → Right (λ k. operated p (values.sum a b) >>= k) (Sym.sum p a b)
   unfolding Sym.sum
   sum_right p (Num m) (Num n) = ranged_right p (m +ℤ n)
+  sum_right p (Num m) (Str t) = spelled_right p (values.numeral m ++ t)
+  sum_right p (Str s) (Num n) = spelled_right p (s ++ values.numeral n)
+  sum_right p (Str s) (Str t) = spelled_right p (s ++ t)
   sum_right p a b = never _
 
   numbers_right : (p : Pos) (f : ℤ → ℤ → Result) (F : ℤ → ℤ → Cont → Here) → ((m n : ℤ) → Right (λ k. operated p (f m n) >>= k) (F m n)) → (a b : Val) → Right (λ k. operated p (values.on_numbers f a b) >>= k) (Sym.numbers F a b)
@@ -370,10 +396,12 @@ module _ (r o : ℕ) where
   pub begun : (q : Request) (K : Cont) (σ : Sit) → Reached (λ k. perform q >>= k) K (record σ { units = suc σ.units }) → Reached (λ k. Ask q k) K σ
   begun q K σ a = record {
     units = suc a.units;
+    seen = a.seen;
     end = a.end;
     sit = a.sit;
-    leads = λ k. subst (λ n. Leads n (Ask q k) (real σ) (after a.end k) (real a.sit)) {x = 1 + a.units} {y = suc a.units} (omega arith) (sequence_is (Ask q k) (perform q >>= k) (after a.end k) (real σ) (real σ) (real a.sit) 1 a.units (begins q k (real σ)) (a.leads k));
+    leads = λ k. steps_count (1 + a.units) (suc a.units) (omega arith) (sequence_is (Ask q k) (perform q >>= k) (after a.end k) (real σ) (real σ) (real a.sit) 1 a.units [] a.seen (begins q k (real σ)) (a.leads k));
     valid = a.valid;
     count = let p = a.count in omega (arith, p);
+    sees = a.sees;
     so = a.so;
   }

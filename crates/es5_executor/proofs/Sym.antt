@@ -1,5 +1,5 @@
 -- A symbolic executor: what is to be shown of code in one function, as a type that computes.
-use Rattle.std.proofs.Common.{◌≡◌, ◌≢◌, ℕ, zero, suc, ◌+◌, ◌<◌, Bool, true, false, ◌||◌, ◌&&◌, not, if◌then◌else◌, List, [], ◌∷◌, ◌++◌, length, map, Option, Some, None, bytes_eq, ℤ, pos, neg_ℤ, ◌+ℤ◌, ◌-ℤ◌, ◌*ℤ◌, int_le, int_div, int_rem}
+use Rattle.std.proofs.Common.{nat_le, ◌≡◌, ◌≢◌, ℕ, zero, suc, ◌+◌, ◌<◌, Bool, true, false, ◌||◌, ◌&&◌, not, if◌then◌else◌, List, [], ◌∷◌, ◌++◌, length, map, Option, Some, None, bytes_eq, ℤ, pos, neg_ℤ, ◌+ℤ◌, ◌-ℤ◌, ◌*ℤ◌, int_le, int_div, int_rem}
 use Rattle.opal_base.specs.declared.place.Pos.{Pos}
 use Rattle.opal_base.specs.Shown.{HostCall}
 use Rattle.es5_tree.specs.declared.tree.Catch.{Catch}
@@ -10,17 +10,17 @@ use Rattle.es5_tree.specs.declared.tree.Operator.{Operator}
 use Rattle.es5_tree.specs.declared.tree.Operator.TheVariants as operator
 use Rattle.es5_tree.specs.Values.{Text, Val, Undefined, Null, Truth, Num, Str, Obj, find_own}
 use Rattle.es5_tree.specs.Ends.{Number}
-use Rattle.es5_tree.specs.Objects.Names.{is_length}
+use Rattle.es5_tree.specs.Objects.Names.{index_of, is_length}
 use Rattle.es5_tree.specs.Objects.Cells.{Kind, Cell, Object, Function, new_cell, own, with_property}
 use Rattle.es5_tree.specs.Objects.Links.{cell_at, get}
 use Rattle.es5_tree.specs.Intrinsics.Lines.{Reading}
-use Rattle.es5_tree.specs.Intrinsics.Made.{object_prototype, function_prototype, number_prototype, truth_prototype}
+use Rattle.es5_tree.specs.Intrinsics.Made.{object_prototype, function_prototype, number_prototype, text_prototype, truth_prototype}
 use Rattle.es5_tree.specs.Intrinsics.Rows.{array_of}
 use Rattle.es5_evaluation.specs.State.{Code, Activation, State, record_at, set_record}
 use Rattle.es5_evaluation.specs.Task.{Place, Variable, Property, Normal, Refers, Return, Throw, Break, Continue, Scope, Request, Evaluate, Refer, Execute}
-use Rattle.es5_evaluation.specs.Values.{Result, Is, Out, largest, truthy, key_of, type_name, kind_name, negated, binary, is_zero}
+use Rattle.es5_evaluation.specs.Values.{Result, Is, Out, largest, truthy, numeral, key_of, type_name, kind_name, negated, binary, is_zero}
 use Rattle.es5_evaluation.specs.Evaluate.{Layer, Statement, layer, invoke, exec_node, with_properties, this_of, caught_by}
-use Rattle.es5_executor.specs.Runs.{End, Gave, Outside, Takes}
+use Rattle.es5_executor.specs.Runs.{End, Gave, Outside, TakesSeen}
 use Rattle.es5_executor.specs.Memory.{Heap, Records, Frame, has, write, assign, Outer, IsOuter}
 
 -- ---- what is known of objects
@@ -116,6 +116,8 @@ pub record Rest : Type 0 where
   pub codes : List Code
   pub lines : Reading
   pub calls : List HostCall
+  -- the states in which the host was called
+  pub seen : List State
 
 -- what a call or a loop is known to do
 pub record Known : Type 0 where
@@ -127,6 +129,11 @@ pub record Known : Type 0 where
   pub facts : List Fact
   pub values : List Val
   pub rest : Rest
+  pub seen : List State
+
+-- the rest behind it
+abbrev pub rest_after : Rest → Known → Rest
+rest_after w c = record { codes = c.rest.codes; lines = c.rest.lines; calls = c.rest.calls; seen = w.seen ++ c.seen }
 
 -- what is to be shown at a place: hints, known calls and loops, objects, records, own variables, what is known, the rest, and the units so far
 abbrev pub Here : Type 1
@@ -206,17 +213,21 @@ SeenAt (Some (IsKind b k)) a m F hs cs h R ps ks fs w n = ⊥
 unfoldable pub seen_by : ℕ → ℕ → Text → (Val → Here) → Here
 seen_by i a m F hs cs h R ps ks fs w n = SeenAt (fact_at ks i) a m F hs cs h R ps ks fs w n
 
-unfoldable pub If : Bool → Here → Here
-If true F = F
-If false F = No
+unfoldable pub Pick : Bool → Here → Here → Here
+Pick true F G = F
+Pick false F G = G
 
--- a property of an object by the fact that the hint names; the length of a text needs none
+-- a name that is no array index
+unfoldable pub NoIndex : Text → Here → Here
+NoIndex m F hs cs h R ps ks fs w n = (index_of m ≡ None) × F hs cs h R ps ks fs w n
+
+-- a property of an object by the fact that the hint names; the length of a text needs none, and its methods stand along its prototype
 unfoldable pub prop : Val → Text → Cont → Here
 prop Undefined m K = No
 prop Null m K = No
 prop (Truth b) m K = Hinted (λ i. seen_by i truth_prototype m (λ v. K (Gave (Normal v))))
 prop (Num z) m K = Hinted (λ i. seen_by i number_prototype m (λ v. K (Gave (Normal v))))
-prop (Str t) m K = If (is_length m) (K (Gave (Normal (Num (pos (length t))))))
+prop (Str t) m K = Pick (is_length m) (K (Gave (Normal (Num (pos (length t)))))) (NoIndex m (Hinted (λ i. seen_by i text_prototype m (λ v. K (Gave (Normal v))))))
 prop (Obj a) m K = Hinted (λ i. seen_by i a m (λ v. K (Gave (Normal v))))
 
 unfoldable pub placed : Val → Text → Cont → Here
@@ -277,8 +288,15 @@ unfoldable pub result : Pos → Result → Cont → Here
 result p (Is v) K = K (Gave (Normal v))
 result p (Out o) K = K (Outside o p)
 
+-- hint 1: the text is of a length within the range; 0: the run leaves the profile
+unfoldable pub spelled : Pos → Text → Cont → Here
+spelled p t K = Test (nat_le (length t) largest) (K (Gave (Normal (Str t)))) (K (Outside Number p))
+
 unfoldable pub sum : Pos → Val → Val → Cont → Here
 sum p (Num m) (Num n) K = ranged p (m +ℤ n) K
+sum p (Num m) (Str t) K = spelled p (numeral m ++ t) K
+sum p (Str s) (Num n) K = spelled p (s ++ numeral n) K
+sum p (Str s) (Str t) K = spelled p (s ++ t) K
 sum p v w K = No
 
 -- of two numbers
@@ -345,12 +363,12 @@ module _ (r o : ℕ) (this : Val) where
   request (Do t) = Execute t (ρ)
 
   -- a call or a loop, by what is known of it
-  unfoldable pub known : (State → ℕ → End → State → Type 0) → Cont → Here
+  unfoldable pub known : (State → ℕ → End → State → List State → Type 0) → Cont → Here
   known T K hs [] h R ps ks fs w n = ⊥
   known T K hs (c ∷ cs) h R ps ks fs w n =
-      T (here r o h R ps w) c.units c.end (there c)
+      T (here r o h R ps w) c.units c.end (there c) c.seen
       × (record_at c.records r ≡ act o c.frame) × (r < length c.records) × Facts c.heap c.facts × Outers c.records o (revalued fs c.values)
-      × K c.end hs cs c.heap c.records c.frame c.facts (revalued fs c.values) c.rest (n + c.units)
+      × K c.end hs cs c.heap c.records c.frame c.facts (revalued fs c.values) (rest_after w c) (n + c.units)
 
   module _ (E : Nodes) where
     unfoldable pub gathers : List EsExpr → List Val → (List Val → Here) → Cont → Here
@@ -362,7 +380,7 @@ module _ (r o : ℕ) (this : Val) where
     alls (t ∷ ts) K = E (Do t) (on (λ v. alls ts K) K)
 
     unfoldable pub called : Pos → List EsExpr → Val → Val → Cont → Here
-    called p args that f K = gathers args [] (λ vs. known (λ s m e s'. Takes (invoke p f that vs) s m e s') K) K
+    called p args that f K = gathers args [] (λ vs. known (λ s m e s' seen. TakesSeen (invoke p f that vs) s m e s' seen) K) K
 
     unfoldable pub typed_place : Place → Cont → Here
     typed_place (Variable x) K = var x (on (λ v. typed v K) K)
@@ -418,7 +436,7 @@ module _ (r o : ℕ) (this : Val) where
 
     unfoldable pub tries : Option Catch → Option (List EsStmt) → Cont → Cont
     tries None fin K e = lasts fin K e
-    tries (Some part) fin K (Gave (Throw v)) = known (λ s m e s'. Takes (caught_by part (ρ) v) s m e s') (lasts fin K)
+    tries (Some part) fin K (Gave (Throw v)) = known (λ s m e s' seen. TakesSeen (caught_by part (ρ) v) s m e s' seen) (lasts fin K)
     tries (Some part) fin K (Gave (Normal v)) = lasts fin K (Gave (Normal v))
     tries (Some part) fin K (Gave (Refers q)) = lasts fin K (Gave (Refers q))
     tries (Some part) fin K (Gave (Return v)) = lasts fin K (Gave (Return v))
@@ -431,7 +449,7 @@ module _ (r o : ℕ) (this : Val) where
     exec (EsStmt-F.Expr e) K = E (Ev e) K
     exec (EsStmt-F.Block body) K = alls body K
     exec (EsStmt-F.If t a b) K = E (Ev t) (on (λ v. Test (truthy v) (E (Do a) K) (second b K)) K)
-    exec (EsStmt-F.While t body) K = known (λ s m e s'. Takes (exec_node (EsStmt-F.While t body) (ρ)) s m e s') K
+    exec (EsStmt-F.While t body) K = known (λ s m e s' seen. TakesSeen (exec_node (EsStmt-F.While t body) (ρ)) s m e s' seen) K
     exec (EsStmt-F.Return value) K = returned value K
     exec EsStmt-F.Break K = K (Gave Break)
     exec EsStmt-F.Continue K = K (Gave Continue)

@@ -18,7 +18,7 @@ use Rattle.es5_evaluation.specs.Values.{truthy, key_of, type_name, kind_name, ne
 use Rattle.es5_evaluation.specs.Evaluate.{tried, at_last, instead, caught_by, Layer, Statement, layer, perform, eval_node, refer_node, exec_node, write_name, read_property, access, access_at, access_from, access_key, no_properties, ItsValue, ItsPlace, Wanted, normally, gives, gather, all, invoke, call_with, call_place, read_place, write_place, this_of, make_array, make_object, with_properties, type_of, type_of_bound, type_of_place, operated, and_then, or_else, choose, branch, type_error}
 use Rattle.es5_evaluation.specs.Run.{run}
 use Rattle.es5_rules.specs.Moments.{moments, moments_by}
-use Rattle.es5_executor.specs.Runs.{Gave, Outside, look, Takes}
+use Rattle.es5_executor.specs.Runs.{Gave, Outside, look, TakesSeen}
 use Rattle.es5_executor.specs.Memory.{Outer, bound_from}
 use Rattle.es5_executor.proofs.Runs.{associates}
 use Rattle.es5_executor.proofs.Sym
@@ -51,12 +51,12 @@ module _ (r o : ℕ) where
           go (Some (Own b n w)) e y = absurd y
           go (Some (Seen b n w)) e y = absurd y
           go (Some (Lacks b n)) e y = absurd y
-          go (Some (IsKind b n)) e y = Right.stepped r o _ (Gave (Normal (Str (kind_name n)))) K σ σ (λ k g. ap (λ z. look g (k (Normal (Str (kind_name z)))) (real r o σ)) (ap (λ z. (cell_at σ.heap z).kind) y.0 ∙ (Sound.fact_is σ.heap σ.facts i (IsKind b n) v.facts e).0)) refl v y.1
-  typed_right Undefined K σ v x = Right.stepped r o _ (Gave (Normal (Str (type_name [] Undefined)))) K σ σ (λ k g. refl) refl v x
-  typed_right Null K σ v x = Right.stepped r o _ (Gave (Normal (Str (type_name [] Null)))) K σ σ (λ k g. refl) refl v x
-  typed_right (Truth b) K σ v x = Right.stepped r o _ (Gave (Normal (Str (type_name [] (Truth b))))) K σ σ (λ k g. refl) refl v x
-  typed_right (Num z) K σ v x = Right.stepped r o _ (Gave (Normal (Str (type_name [] (Num z))))) K σ σ (λ k g. refl) refl v x
-  typed_right (Str t) K σ v x = Right.stepped r o _ (Gave (Normal (Str (type_name [] (Str t))))) K σ σ (λ k g. refl) refl v x
+          go (Some (IsKind b n)) e y = Right.stepped r o _ (Gave (Normal (Str (kind_name n)))) K σ σ (λ k g. ap (λ z. look g (k (Normal (Str (kind_name z)))) (real r o σ)) (ap (λ z. (cell_at σ.heap z).kind) y.0 ∙ (Sound.fact_is σ.heap σ.facts i (IsKind b n) v.facts e).0)) refl refl v y.1
+  typed_right Undefined K σ v x = Right.stepped r o _ (Gave (Normal (Str (type_name [] Undefined)))) K σ σ (λ k g. refl) refl refl v x
+  typed_right Null K σ v x = Right.stepped r o _ (Gave (Normal (Str (type_name [] Null)))) K σ σ (λ k g. refl) refl refl v x
+  typed_right (Truth b) K σ v x = Right.stepped r o _ (Gave (Normal (Str (type_name [] (Truth b))))) K σ σ (λ k g. refl) refl refl v x
+  typed_right (Num z) K σ v x = Right.stepped r o _ (Gave (Normal (Str (type_name [] (Num z))))) K σ σ (λ k g. refl) refl refl v x
+  typed_right (Str t) K σ v x = Right.stepped r o _ (Gave (Normal (Str (type_name [] (Str t))))) K σ σ (λ k g. refl) refl refl v x
 
   type_of_var : (x : Text) → Right.Right r o (λ k. type_of_place r (Variable x) >>= k) (λ K. Sym.var x (on (λ v. Sym.typed v K) K))
   unfolding Sym.var VarIs on type_of_place run walk moments moments_by ◌>>=◌
@@ -150,7 +150,7 @@ module _ (r o : ℕ) where
 
       called_right : (p : Pos) (args : List EsExpr) (that f : Val) → Right.Right r o (λ k. call_with p args (ρ) that f >>= k) (Sym.called r o this E p args that f)
       unfolding Sym.called
-      called_right p args that f = gather_right args [] (λ vs. invoke p f that vs) (λ vs. Sym.known r o this (λ s m e s'. Takes (invoke p f that vs) s m e s')) (λ vs. Right.known_right r o this (invoke p f that vs))
+      called_right p args that f = gather_right args [] (λ vs. invoke p f that vs) (λ vs. Sym.known r o this (λ s m e s' seen. TakesSeen (invoke p f that vs) s m e s' seen)) (λ vs. Right.known_right r o this (invoke p f that vs))
 
       one : (e : EsExpr) (F : Val → Task) (G : Val → Cont → Here) → ((v : Val) → Right.Right r o (λ k. F v >>= k) (G v)) → Right.Right r o (λ k. Ask (Evaluate e (ρ)) (λ c. normally F c >>= k)) (λ K. E (Ev e) (on (λ v. G v K) K))
       one e F G f = Right.bind r o (λ k. Ask (Evaluate e (ρ)) k) (E (Ev e)) F G (right (Ev e)) f
@@ -249,7 +249,7 @@ module _ (r o : ℕ) where
       tries_right (Some part) fin (Throw w) K σ v x =
           Right.as_code r o _ (λ k. caught_by part (ρ) w >>= (λ c. at_last fin (ρ) c >>= k)) K σ
           (λ k g. ap (λ t. look g t (real r o σ)) (associates (caught_by part (ρ) w) (at_last fin (ρ)) k))
-          (Right.bind_end r o (λ k. caught_by part (ρ) w >>= k) (Sym.known r o this (λ s m e s'. Takes (caught_by part (ρ) w) s m e s')) (at_last fin (ρ)) (Sym.lasts r o this E fin) (lasts_out fin) (Right.known_right r o this (caught_by part (ρ) w)) (lasts_right fin) K σ v x)
+          (Right.bind_end r o (λ k. caught_by part (ρ) w >>= k) (Sym.known r o this (λ s m e s' seen. TakesSeen (caught_by part (ρ) w) s m e s' seen)) (at_last fin (ρ)) (Sym.lasts r o this E fin) (lasts_out fin) (Right.known_right r o this (caught_by part (ρ) w)) (lasts_right fin) K σ v x)
       tries_right (Some part) fin (Normal w) K σ v x = lasts_right fin (Normal w) K σ v x
       tries_right (Some part) fin (Refers q) K σ v x = lasts_right fin (Refers q) K σ v x
       tries_right (Some part) fin (Return w) K σ v x = lasts_right fin (Return w) K σ v x
