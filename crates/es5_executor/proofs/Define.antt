@@ -1,5 +1,5 @@
 -- The run of `define`.
-use Rattle.std.proofs.Common.{◌≡◌, ◌≢◌, ℕ, ◌+◌, ◌*◌, ◌<◌, Bool, true, false, ◌||◌, List, [], ◌∷◌, ◌++◌, length, Some, refl, sym, ap, ◌∙◌, subst, arith, ⊎_elim, bytes_eq, codes, length-append}
+use Rattle.std.proofs.Common.{◌≡◌, ◌≢◌, ℕ, ◌+◌, ◌*◌, ◌<◌, Bool, true, false, List, [], ◌∷◌, ◌++◌, length, Some, refl, sym, ap, ◌∙◌, subst, arith, ⊎_elim, codes, length-append}
 use Rattle.es5_tree.specs.declared.tree.EsExpr.{EsExpr}
 use Rattle.es5_tree.specs.declared.tree.EsStmt.{EsStmt}
 use Rattle.es5_tree.specs.declared.tree.EsStmt.TheVariants as stmt
@@ -15,7 +15,7 @@ use Rattle.es5_executor.specs.Runs.{Gave}
 use Rattle.es5_executor.specs.Memory.{Heap, has, write}
 use Rattle.es5_executor.specs.Define.{define_code, next_name, Links, write_all, frame_of, IsMethod, Defines, In, DefineWrites}
 use Rattle.es5_executor.proofs.Memory
-use Rattle.es5_executor.proofs.Sym.{Own, Ev, Do, act, Unless}
+use Rattle.es5_executor.proofs.Sym.{ByRun, Own, Ev, Do, act, Unless}
 use Rattle.es5_executor.proofs.Calls.{by_call, by_node, seam, rest_of}
 use Rattle.es5_executor.proofs.Codes.{code_is}
 use Rattle.es5_executor.proofs.Loops.{Quiet, loop_ends, loop_goes}
@@ -29,7 +29,7 @@ define_own = code_is 20 define_code.body _ refl
 
 links_written : (ls : List ℕ) (h : Heap) (v : Val) (l : ℕ) (n : Text) (f : Val) → IsMethod n → Links h v ls → Links (write h l n f) v ls
 links_written [] h v l n f a c = c
-links_written (x ∷ ls) h v l n f a (p, w, q, r) = (p, w, Memory.has_other_name h l x n next_name f a.0 (ap (λ b. b || is_length next_name) a.1) ∙ q, links_written ls h w l n f a r)
+links_written (x ∷ ls) h v l n f a (p, w, q, r) = (p, w, Memory.has_other_name h l x n next_name f a.0 (Memory.clash_apart n next_name a.1 refl) ∙ q, links_written ls h w l n f a r)
 
 -- a value that stands there already stays
 still_one : (h : Heap) (l : ℕ) (n : Text) (f : Val) (x : ℕ) → is_length n ≡ false → has h x n ≡ Some f → has (write h l n f) x n ≡ Some f
@@ -71,7 +71,7 @@ loops (l ∷ ls) s o h this m n f v below a (p, w, q, r) =
     let ps = frame_of m n f (Obj l) in
     let long = length-append s.records (act o ps ∷ []) in
     let top = Memory.record_new s.records (act o ps) in
-    let apart = unless (bytes_eq n next_name || is_length next_name) (l ≢ l) (ap (λ b. b || is_length next_name) a.1) in
+    let apart = unless (Memory.clash n next_name) (l ≢ l) (Memory.clash_apart n next_name a.1 refl) in
     let tested = by_node {seen = []} (length s.records) o this (Ev test) (at_turn s o h m n f (Obj l)) ps 20 [] [] [] [] 3 (Gave (Normal (Truth true))) _ top (omega (arith, long)) below tt tt tt (assumption (seam s.records (act o ps) (act o ps))) in
     let done = by_node {seen = []} (length s.records) o this (Do body) (at_turn s o h m n f (Obj l)) ps 20 [] (Own l next_name w ∷ []) (99 ∷ 0 ∷ []) [] 13 (Gave (Normal Undefined)) (at_turn s o (write h l n f) m n f w) top (omega (arith, long)) below tt tt (q, tt) (assumption (a.0, apart, seam s.records (act o ps) (act o (frame_of m n f w)))) in
     let rest = loops ls s o (write h l n f) this m n f w below a (links_written ls h w l n f a r) in
@@ -92,7 +92,7 @@ defines p d o m n f first ls this s fn below a own c =
     let u : 5 + (3 + 16 * length ls) ≡ 8 + 16 * length ls = omega arith in
     let here_loop = subst (λ Z. Quiet test body (record { this = this; innermost = length s.records }) (record s { records = Z }) (3 + 16 * length ls) (Gave (Normal Undefined)) (at_turn s o (write_all s.heap ls n f) (Obj m) n f Null)) (sym (seam s.records (act o start) (act o ps))) loop in
     by_call p d o define_code this (Obj m ∷ Str n ∷ f ∷ []) (codes "l" ∷ []) s 20 [] (Own m (codes "$$own") first ∷ []) (0 ∷ [])
-    (record { units = 3 + 16 * length ls; end = Gave (Normal Undefined); heap = write_all s.heap ls n f; records = s.records ++ act o qs ∷ []; frame = qs; facts = []; values = []; rest = rest_of s; seen = [] } ∷ [])
+    (ByRun (record { units = 3 + 16 * length ls; end = Gave (Normal Undefined); heap = write_all s.heap ls n f; records = s.records ++ act o qs ∷ []; frame = qs; facts = []; values = []; rest = rest_of s; seen = [] }) ∷ [])
     (8 + 16 * length ls) (Gave (Normal Undefined)) _ fn refl define_own below tt (own, tt)
     (assumption (here_loop, top, l, u, seam s.records (act o qs) (act o qs)))
 
@@ -108,7 +108,7 @@ define_writes h (l ∷ ls) n f first a (p, w, q, r) =
       links = λ x. rest.links x ∙ Memory.link_kept h l x n f;
       there = λ x e. at_one x e.0 e (still_all (write h l n f) ls n f x a.0) rest.there;
       others = λ x e k. rest.others x e.1 k ∙ ap (λ z. own z k) (Memory.write_other h l x n f (λ d. e.0 (sym d)));
-      names = λ x k e d. rest.names x k e d ∙ Memory.has_other_name h l x n k f a.0 (ap (λ b. b || is_length k) e ∙ d);
+      names = λ x k e d. rest.names x k e d ∙ Memory.has_other_name h l x n k f a.0 (Memory.clash_apart n k e d);
     }
   where
     at_one : (x : ℕ) (b : Bool) → ((b : Bool) × (b ≡ true → x ≡ l) × (b ≡ false → In x ls)) → (has (write h l n f) x n ≡ Some f → has (write_all (write h l n f) ls n f) x n ≡ Some f) → ((y : ℕ) → In y ls → has (write_all (write h l n f) ls n f) y n ≡ Some f) → has (write_all (write h l n f) ls n f) x n ≡ Some f

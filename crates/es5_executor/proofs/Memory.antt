@@ -1,22 +1,28 @@
 -- Laws of objects and variables.
-use Rattle.std.proofs.Common.{◌≡◌, ◌≢◌, ℕ, zero, suc, ◌+◌, ◌-◌, ◌<◌, ◌≤◌, Bool, true, false, ◌||◌, ◌&&◌, ◌⊎◌, if◌then◌else◌, List, [], ◌∷◌, ◌++◌, length, set, Option, Some, None, is_some, refl, sym, ap, subst, ◌∙◌, arith, inl, inr, ⊎_elim, bytes_eq, length-append, length-set}
+use Rattle.std.proofs.Common.{map, not, nat_lt, ltb-true, pos, ◌≡◌, ◌≢◌, ℕ, zero, suc, ◌+◌, ◌-◌, ◌<◌, ◌≤◌, Bool, true, false, ◌||◌, ◌&&◌, ◌⊎◌, if◌then◌else◌, List, [], ◌∷◌, ◌++◌, length, set, Option, Some, None, is_some, refl, sym, ap, subst, ◌∙◌, arith, inl, inr, ⊎_elim, bytes_eq, length-append, length-set}
 use Rattle.std.proofs.lemmas.Bool.{cases_lt}
 use Rattle.std.proofs.lemmas.List.{get_or-set_same, get_or-set_other, get_or_past, get_or_append_left}
 use Rattle.std.proofs.Math.Seq.{get_or-append_seam}
 use Rattle.std.proofs.lemmas.Slice.Eq.{bytes_eq-Decides}
-use Rattle.es5_tree.specs.Values.{Text, Val, find_own, first}
-use Rattle.es5_tree.specs.Objects.Names.{is_length}
-use Rattle.es5_tree.specs.Objects.Cells.{Cell, Object, new_cell, is_array, is_array_length, own, put, with_length, with_value, with_property, whole}
+use Rattle.std.specs.Int.Digits.{digits_of, number_from_digits, AllBelowBase}
+use Rattle.std.proofs.lemmas.Int.Digits.{all_below_base_digits_of, number_digits_of}
+use Rattle.es5_tree.specs.Values.{Text, Val, Num, find_own, first}
+use Rattle.es5_tree.specs.Objects.Names.{decimal, index_of, is_length}
+use Rattle.es5_tree.specs.Objects.Cells.{Cell, Object, new_cell, is_array, is_array_length, own, put, with_length, length_past, with_value, with_property, whole}
 use Rattle.es5_tree.specs.Objects.Links.{cell_at, link_at, chain, first_of_chain, first_own, get}
-use Rattle.es5_tree.proofs.ObjectProperties.{find_written, find_other}
+use Rattle.es5_tree.proofs.ObjectProperties.{find_written, find_other, index_spelled}
 use Rattle.es5_evaluation.specs.State.{Activation, record_at, set_record, binding_by, binds, with_variable}
-use Rattle.es5_executor.specs.Memory.{assign, Heap, Records, has, write}
+use Rattle.es5_executor.specs.Memory.{assign, plain, Heap, Records, has, write}
 
 pub same_or_not : (a b : ℕ) → (a ≡ b) ⊎ (a ≢ b)
 same_or_not zero zero = inl refl
 same_or_not zero (suc b) = inr (λ e. omega (arith, e))
 same_or_not (suc a) zero = inr (λ e. omega (arith, e))
 same_or_not (suc a) (suc b) = ⊎_elim (λ e. inl (ap suc e)) (λ n. inr (λ e. n (omega (arith, e)))) (same_or_not a b)
+
+pub either : (b : Bool) → (b ≡ true) ⊎ (b ≡ false)
+either true = inl refl
+either false = inr refl
 
 pub eq_of : (m n : Text) → bytes_eq m n ≡ true → m ≡ n
 eq_of m n e = (bytes_eq-Decides m n).0 e
@@ -27,11 +33,11 @@ true_not_false b e f = cc
 pub differ : (m n : Text) → bytes_eq m n ≡ false → m ≡ n → ⊥
 differ m n f e = true_not_false (bytes_eq m n) ((bytes_eq-Decides m n).1 e) f
 
-both_false : (a b : Bool) → (a || b) ≡ false → (a ≡ false) × (b ≡ false)
+pub both_false : (a b : Bool) → (a || b) ≡ false → (a ≡ false) × (b ≡ false)
 both_false true b e = cc
 both_false false b e = (refl, e)
 
-and_false : (a b : Bool) → b ≡ false → (a && b) ≡ false
+pub and_false : (a b : Bool) → b ≡ false → (a && b) ≡ false
 and_false true b e = e
 and_false false b e = refl
 
@@ -103,39 +109,90 @@ kind_kept h a b n v = each_cell (λ c. c.kind) h a b n v (put_kind (cell_at h a)
 pub link_kept : (h : Heap) (a b : ℕ) (n : Text) (v : Val) → link_at (write h a n v) b ≡ link_at h b
 link_kept h a b n v = each_cell (λ c. c.link) h a b n v (put_link (cell_at h a) n v)
 
-put_other : (c : Cell) (m n : Text) (v : Val) → is_length m ≡ false → bytes_eq m n ≡ false → is_length n ≡ false → own (put c m v) n ≡ own c n
-unfolding own put with_value
-put_other c m n v p d e =
+-- a name that begins with no digit is no array index
+digits_first : (ds : List ℕ) → AllBelowBase 10 ds → (d : ℕ) (more : List ℕ) → ds ≡ d ∷ more → plain (map (λ d. 48 + d) ds) ≡ false
+unfolding plain
+digits_first [] all d more e = cc
+digits_first (x ∷ xs) all d more e =
+    let below = all.0 in
+    ap (λ b. b || nat_lt 57 (48 + x)) (not_lt (48 + x) 48 (omega (arith, below))) ∙ not_lt 57 (48 + x) (omega (arith, below))
+  where
+    not_lt : (m n : ℕ) → n ≤ m → nat_lt m n ≡ false
+    not_lt m n l = ⊎_elim (λ (t : nat_lt m n ≡ true). absurd (let q = ltb-true m n t in omega (arith, q, l))) (λ f. f) (either (nat_lt m n))
+
+zero_first : plain (48 ∷ []) ≡ false
+unfolding plain
+zero_first = refl
+
+not_plain : (i : ℕ) → plain (decimal i) ≡ false
+unfolding decimal
+not_plain zero = zero_first
+not_plain (suc n) = by_digits (digits_of 10 (suc n)) refl
+  where
+    by_digits : (ds : List ℕ) → digits_of 10 (suc n) ≡ ds → plain (map (λ d. 48 + d) (digits_of 10 (suc n))) ≡ false
+    by_digits [] e = absurd (let f : 0 ≡ suc n = ap (number_from_digits 10) (sym e) ∙ number_digits_of 10 (suc n) (omega arith) in omega (arith, f))
+    by_digits (d ∷ ds) e = digits_first (digits_of 10 (suc n)) (all_below_base_digits_of 10 (suc n) (omega arith)) d ds e
+
+pub plain_is : (m : Text) → plain m ≡ true → index_of m ≡ None
+plain_is m e = go (index_of m) refl
+  where
+    go : (i : Option ℕ) → index_of m ≡ i → index_of m ≡ None
+    go None f = f
+    go (Some i) f = true_not_false (plain m) e (ap plain (index_spelled m i f).0 ∙ not_plain i)
+
+-- a write of the name m can change a property of the name n: the same one, or the length of an array by an element
+unfoldable pub clash : Text → Text → Bool
+clash m n = bytes_eq m n || (is_length n && not (plain m))
+
+pub clash_apart : (m n : Text) → bytes_eq m n ≡ false → is_length n ≡ false → clash m n ≡ false
+unfolding clash
+clash_apart m n e f = ap (λ b. b || (is_length n && not (plain m))) e ∙ ap (λ b. b && not (plain m)) f
+
+not_true : (b : Bool) → not b ≡ false → b ≡ true
+not_true true e = refl
+not_true false e = cc
+
+both_true : (a b : Bool) → (a && b) ≡ false → a ≡ true → b ≡ false
+both_true true b e f = e
+both_true false b e f = cc
+
+put_other : (c : Cell) (m n : Text) (v : Val) → is_length m ≡ false → clash m n ≡ false → own (put c m v) n ≡ own c n
+unfolding own put with_value clash
+put_other c m n v p e =
+    let d = both_false _ _ e in
     let x = and_false (is_array c.kind) (is_length m) p in
-    let y = and_false (is_array c.kind) (is_length n) e in
-    rw x (rw y (find_other c.properties m n v (differ m n d)))
+    rw x (ap (λ f. if is_array c.kind && is_length n then Some (Num (pos (if is_array c.kind then length_past c.array_length (index_of m) else c.array_length))) else f) (find_other c.properties m n v (differ m n d.0))
+    ∙ lengths (is_array c.kind) (is_length n) c.array_length (index_of m) (find_own c.properties n) (λ t. plain_is m (not_true (plain m) (both_true (is_length n) (not (plain m)) d.1 t))))
+  where
+    lengths : (l t : Bool) (k : ℕ) (i : Option ℕ) (x : Option Val) → (t ≡ true → i ≡ None) → (if l && t then Some (Num (pos (if l then length_past k i else k))) else x) ≡ (if l && t then Some (Num (pos k)) else x)
+    lengths false t k i x f = refl
+    lengths true false k i x f = refl
+    lengths true true k i x f = ap (λ j. Some (Num (pos (length_past k j)))) (f refl)
 
 put_there : (c : Cell) (m : Text) (v : Val) → is_length m ≡ false → own (put c m v) m ≡ Some v
 unfolding own put with_value
 put_there c m v p = let x = and_false (is_array c.kind) (is_length m) p in rw x (rw x (find_written c.properties m v))
 
-pub has_other_name : (h : Heap) (a b : ℕ) (m n : Text) (v : Val) → is_length m ≡ false → (bytes_eq m n || is_length n) ≡ false → has (write h a m v) b n ≡ has h b n
-has_other_name h a b m n v p q =
-    let d = both_false _ _ q in
-    each_cell (λ c. own c n) h a b m v (put_other (cell_at h a) m n v p d.0 d.1)
+pub has_other_name : (h : Heap) (a b : ℕ) (m n : Text) (v : Val) → is_length m ≡ false → clash m n ≡ false → has (write h a m v) b n ≡ has h b n
+has_other_name h a b m n v p q = each_cell (λ c. own c n) h a b m v (put_other (cell_at h a) m n v p q)
 
 pub has_written : (h : Heap) (a : ℕ) (m : Text) (v : Val) → is_length m ≡ false → a < length h → has (write h a m v) a m ≡ Some v
 has_written h a m v p l = ap (λ c. own c m) (write_there h a m v l) ∙ put_there (cell_at h a) m v p
 
 -- ---- properties along the links
 
-first_kept : (h h' : Heap) (os : List ℕ) (n : Text) → ((b : ℕ) → has h' b n ≡ has h b n) → first_own h' os n ≡ first_own h os n
+pub first_kept : (h h' : Heap) (os : List ℕ) (n : Text) → ((b : ℕ) → has h' b n ≡ has h b n) → first_own h' os n ≡ first_own h os n
 unfolding first_own
 first_kept h h' [] n e = refl
 first_kept h h' (o ∷ os) n e = ap (λ x. first x (λ u. first_own h' os n)) (e o) ∙ ap (λ x. first (has h o n) (λ u. x)) (first_kept h h' os n e)
 
-chain_kept : (k : ℕ) (h h' : Heap) (at : Option ℕ) → ((b : ℕ) → link_at h' b ≡ link_at h b) → first_of_chain k h' at ≡ first_of_chain k h at
+pub chain_kept : (k : ℕ) (h h' : Heap) (at : Option ℕ) → ((b : ℕ) → link_at h' b ≡ link_at h b) → first_of_chain k h' at ≡ first_of_chain k h at
 unfolding first_of_chain
 chain_kept zero h h' at e = refl
 chain_kept (suc k) h h' None e = refl
 chain_kept (suc k) h h' (Some o) e = ap (λ l. o ∷ l) (ap (λ x. first_of_chain k h' x) (e o) ∙ chain_kept k h h' (link_at h o) e)
 
-pub get_other_name : (h : Heap) (a b : ℕ) (m n : Text) (v : Val) → is_length m ≡ false → (bytes_eq m n || is_length n) ≡ false → get (write h a m v) b n ≡ get h b n
+pub get_other_name : (h : Heap) (a b : ℕ) (m n : Text) (v : Val) → is_length m ≡ false → clash m n ≡ false → get (write h a m v) b n ≡ get h b n
 unfolding get chain
 get_other_name h a b m n v p q =
     ap (λ k. first_own (write h a m v) (first_of_chain k (write h a m v) (Some b)) n) (write_length h a m v)
@@ -279,10 +336,6 @@ binding_old (suc k) R a (Some r) x b e = ⊎_elim (inside (λ f. binding_old k R
 
     outside : length R ≤ r → (if binds (record_at (R ++ a ∷ []) r) x then Some r else binding_by k (R ++ a ∷ []) (record_at (R ++ a ∷ []) r).outer x) ≡ Some b
     outside l = let f : None ≡ Some b = sym (nothing k) ∙ (sym (ap (λ z. if binds z x then Some r else binding_by k R z.outer x) (inside_record R r l)) ∙ e) in cc
-
-pub either : (b : Bool) → (b ≡ true) ⊎ (b ≡ false)
-either true = inl refl
-either false = inr refl
 
 -- a write to a variable that is there
 pub written_alike : (a : Activation) (x : Text) (v w : Val) → find_own a.variables x ≡ Some w → Alike (with_variable a x v) a

@@ -1,5 +1,5 @@
 -- The executor is right, node by node.
-use Rattle.std.proofs.Common.{nat_le, append-nil, append_assoc, ◌≡◌, ℕ, zero, suc, ◌+◌, ◌<◌, Bool, true, false, if◌then◌else◌, List, [], ◌∷◌, ◌++◌, length, Option, Some, None, pos, refl, sym, ap, subst, ◌∙◌, arith, ℤ, ◌+ℤ◌, ◌-ℤ◌, ◌*ℤ◌, int_div, int_rem}
+use Rattle.std.proofs.Common.{codes, nat_le, append-nil, append_assoc, ◌≡◌, ℕ, zero, suc, ◌+◌, ◌<◌, Bool, true, false, if◌then◌else◌, List, [], ◌∷◌, ◌++◌, length, Option, Some, None, pos, refl, sym, ap, subst, ◌∙◌, arith, ℤ, ◌+ℤ◌, ◌-ℤ◌, ◌*ℤ◌, int_div, int_rem}
 use Rattle.std.proofs.lemmas.List.{set-get_or}
 use Rattle.opal_base.specs.declared.place.Pos.{Pos}
 use Rattle.es5_tree.specs.declared.tree.Operator.{Operator}
@@ -8,22 +8,23 @@ use Rattle.es5_tree.specs.Values.{Text, Val, Undefined, Null, Truth, Num, Str, O
 use Rattle.es5_tree.specs.Ends.{OutKind, Number, Division}
 use Rattle.es5_tree.specs.Objects.Names.{is_length, index_of}
 use Rattle.es5_tree.specs.Objects.Cells.{Cell, Function, new_cell, with_property}
-use Rattle.es5_tree.specs.Objects.Links.{get}
+use Rattle.es5_tree.specs.Objects.Links.{get, link_at}
 use Rattle.es5_tree.specs.Intrinsics.Made.{function_prototype, number_prototype, truth_prototype, text_prototype}
 use Rattle.es5_evaluation.specs.State.{Code, State, record_at, set_record, value_in}
-use Rattle.es5_evaluation.specs.Task.{Place, Property, Completion, Normal, Refers, Return, Throw, Break, Continue, Request, Task, Done, Ask, Make, ◌>>=◌, walk}
+use Rattle.es5_evaluation.specs.Task.{Place, Variable, Property, Completion, Normal, Refers, Return, Throw, Break, Continue, Request, Task, Done, Ask, Make, ◌>>=◌, walk}
 use Rattle.es5_evaluation.specs.Values.{Result, Is, Out, largest, truthy, key_of, type_name, kind_name, negated, binary, is_zero, or_undefined, in_range, quotient, remainder}
 use Rattle.es5_evaluation.specs.Values as values
-use Rattle.es5_evaluation.specs.Evaluate.{perform, read_name, write_name, read_property, write_property, access, ItsPlace, normally, referred, make_function, operated}
+use Rattle.es5_evaluation.specs.Evaluate.{delete_place, delete_property, error_object, raise, type_error, perform, read_name, write_name, read_property, write_property, access, ItsPlace, normally, referred, make_function, operated}
 use Rattle.es5_evaluation.specs.Run.{run}
 use Rattle.es5_rules.specs.Moments.{moments, moments_by}
 use Rattle.es5_rules.proofs.Steps.{steps_count}
 use Rattle.es5_executor.specs.Runs.{End, Gave, Outside, after, Leads, look, TakesSeen}
-use Rattle.es5_executor.specs.Memory.{Heap, Records, Frame, has, write, assign, bound_from, value_by, Outer}
+use Rattle.es5_executor.specs.Memory.{Heap, Records, Frame, has, write, erase, Misses, assign, bound_from, value_by, Outer}
 use Rattle.es5_executor.proofs.Runs.{sequence_is, stays, silent, silently, begins}
+use Rattle.es5_executor.proofs.Changes
 use Rattle.es5_executor.proofs.Memory
 use Rattle.es5_executor.proofs.Sym
-use Rattle.es5_executor.proofs.Sym.{Fact, Own, Seen, Lacks, IsKind, FactIs, Facts, Outers, Away, fact_at, outer_at, rewritten, revalued, Writes, news, Rest, Known, Here, Cont, Node, Ev, Rf, Do, Nodes, No, on, on_place, Hinted, Choice, Test, VarIs, SetIs, SeenAt, KindAt, fits, act, here, there}
+use Rattle.es5_executor.proofs.Sym.{Fact, Own, Seen, Lacks, Absent, Names, Link, IsKind, Gone, FactIs, Facts, Outers, Away, fact_at, outer_at, rewritten, revalued, news, Rest, Known, ByRun, ByRow, Here, Cont, Node, Ev, Rf, Do, Nodes, No, on, on_place, Hinted, Choice, Test, VarIs, SetIs, SeenAt, KindAt, fits, act, here, there}
 use Rattle.es5_executor.proofs.Sound
 use Rattle.es5_executor.proofs.Sound.{Found}
 
@@ -186,6 +187,18 @@ module _ (r o : ℕ) where
           let a = f i K (record σ { hints = hs }) (record { within = v.within; below = v.below; facts = v.facts; outers = v.outers; away = v.away }) y in
           record { units = a.units; seen = a.seen; end = a.end; sit = a.sit; leads = a.leads; valid = a.valid; count = a.count; sees = a.sees; so = a.so }
 
+  pub fewer : (σ : Sit) (hs : List ℕ) → Valid σ → Valid (record σ { hints = hs })
+  fewer σ hs v = record { within = v.within; below = v.below; facts = v.facts; outers = v.outers; away = v.away }
+
+  -- at one place
+  pub hinted_here : (T : Code') (F : ℕ → Here) (K : Cont) (σ : Sit) → at (Hinted F) σ → ((i : ℕ) (hs : List ℕ) → at (F i) (record σ { hints = hs }) → Reached T K (record σ { hints = hs })) → Reached T K σ
+  unfolding Hinted
+  hinted_here T F K σ x f = go σ.hints x
+    where
+      go : (hs : List ℕ) → Hinted F hs σ.subs σ.heap σ.records σ.frame σ.facts σ.fars σ.rest σ.units → Reached T K σ
+      go [] y = absurd y
+      go (i ∷ hs) y = let a = f i hs y in record { units = a.units; seen = a.seen; end = a.end; sit = a.sit; leads = a.leads; valid = a.valid; count = a.count; sees = a.sees; so = a.so }
+
   pub tested : (T : Bool → Code') (b : Bool) (F G : Cont → Here) → Right (T true) F → Right (T false) G → Right (T b) (λ K. Test b (F K) (G K))
   unfolding Test Choice
   tested T b F G f g = hinted (T b) (λ i K. Choice i b (F K) (G K)) by_hint
@@ -236,9 +249,70 @@ module _ (r o : ℕ) where
           refl refl
           (record { within = let l = Memory.assign_length σ.records u.at x a in let q = v.within in omega (arith, l, q); below = v.below; facts = v.facts; outers = subst (λ Z. Outers Z o (rewritten σ.fars x a)) st (Sound.outers_written S o u.at x a u.val σ.fars b val inside v.outers); away = Sound.away_same r σ.fars x a v.away }) y.1
 
+  -- ---- new objects, and errors of the machine
+
+  pub makes_right : (c : Cell) (e : Val → End) → Right (λ k. Make c (λ a. after (e (Obj a)) k)) (Sym.makes c e)
+  unfolding Sym.makes run walk moments moments_by
+  makes_right c e K σ v x =
+      let σ1 = record σ { heap = σ.heap ++ c ∷ []; facts = σ.facts ++ news (length σ.heap) c c.properties } in
+      stepped _ (e (Obj (length σ.heap))) K σ σ1 (λ k g. refl) refl refl
+      (record { within = v.within; below = v.below; facts = Sound.facts_join _ σ.facts _ (Sound.facts_old σ.heap c σ.facts v.facts) (Sound.facts_new σ.heap c c.properties); outers = v.outers; away = v.away }) x
+
+  pub make_right : (c : Cell) → Right (λ k. Make c (λ a. k (Normal (Obj a)))) (Sym.make c)
+  unfolding Sym.make
+  make_right c = makes_right c (λ v. Gave (Normal v))
+
+  pub raised_right : (message : Text) → Right (λ k. type_error message >>= k) (Sym.raised message)
+  unfolding Sym.raised raise ◌>>=◌
+  raised_right message = makes_right (error_object (codes "TypeError") message) (λ v. Gave (Throw v))
+
   -- ---- properties
 
-  use_fact : (a : ℕ) (m : Text) (T : Code') → ((K : Cont) (σ : Sit) (w : Val) → Valid σ → get σ.heap a m ≡ Some w → at (K (Gave (Normal w))) σ → Reached T K σ) → Right T (λ K. Hinted (λ i. Sym.seen_by i a m (λ w. K (Gave (Normal w)))))
+  -- what is done with the value of a property of an object
+  abbrev Uses : ℕ → Text → Code' → Type 1
+  Uses a m T = (K : Cont) (σ : Sit) (w : Val) → Valid σ → or_undefined (get σ.heap a m) ≡ w → at (K (Gave (Normal w))) σ → Reached T K σ
+
+  -- behind an object that lacks it
+  behind : (a : ℕ) (m : Text) (T : Code') → Uses a m T → (K : Cont) (σ : Sit) → Valid σ → has σ.heap a m ≡ None → a < length σ.heap → at (Hinted (λ i. Sym.link_by i a (λ l. Sym.behind l m (K (Gave (Normal Undefined)))))) σ → Reached T K σ
+  unfolding Sym.link_by Sym.LinkAt Sym.behind Sym.absent_by Sym.AbsentAt
+  behind a m T f K σ v lacks inside x = hinted_here T (λ i. Sym.link_by i a (λ l. Sym.behind l m (K (Gave (Normal Undefined))))) K σ x by_link
+    where
+      misses : (hs : List ℕ) → Misses σ.heap a m → at (K (Gave (Normal Undefined))) (record σ { hints = hs }) → Reached T K (record σ { hints = hs })
+      misses hs e y = f K (record σ { hints = hs }) Undefined (fewer σ hs v) (ap or_undefined (Changes.misses_is σ.heap a m e)) y
+
+      by_next : (b : ℕ) → link_at σ.heap a ≡ Some b → (i : ℕ) (hs : List ℕ) → at (Sym.absent_by i b m (K (Gave (Normal Undefined)))) (record σ { hints = hs }) → Reached T K (record σ { hints = hs })
+      by_next b l i hs y = go (fact_at σ.facts i) refl y
+        where
+          go : (q : Option Fact) → fact_at σ.facts i ≡ q → at (Sym.AbsentAt q b m (K (Gave (Normal Undefined)))) (record σ { hints = hs }) → Reached T K (record σ { hints = hs })
+          go None e z = absurd z
+          go (Some (Own c n w)) e z = absurd z
+          go (Some (Seen c n w)) e z = absurd z
+          go (Some (Lacks c n)) e z = absurd z
+          go (Some (Absent c n)) e z = misses hs (Changes.misses_before σ.heap a b m lacks inside l (subst (λ q. Misses σ.heap q m) (sym z.0) (subst (λ q. Misses σ.heap c q) (sym z.1) (Sound.fact_is σ.heap σ.facts i (Absent c n) v.facts e)))) z.2
+          go (Some (Names c ns)) e z = absurd z
+          go (Some (Link c k)) e z = absurd z
+          go (Some (IsKind c k)) e z = absurd z
+          go (Some Gone) e z = absurd z
+
+      by_end : (l : Option ℕ) → link_at σ.heap a ≡ l → (hs : List ℕ) → at (Sym.behind l m (K (Gave (Normal Undefined)))) (record σ { hints = hs }) → Reached T K (record σ { hints = hs })
+      by_end None e hs y = misses hs (Changes.misses_last σ.heap a m lacks inside e) y
+      by_end (Some b) e hs y = hinted_here T (λ i. Sym.absent_by i b m (K (Gave (Normal Undefined)))) K (record σ { hints = hs }) y (by_next b e)
+
+      by_link : (i : ℕ) (hs : List ℕ) → at (Sym.link_by i a (λ l. Sym.behind l m (K (Gave (Normal Undefined))))) (record σ { hints = hs }) → Reached T K (record σ { hints = hs })
+      by_link i hs y = go (fact_at σ.facts i) refl y
+        where
+          go : (q : Option Fact) → fact_at σ.facts i ≡ q → at (Sym.LinkAt q a (λ l. Sym.behind l m (K (Gave (Normal Undefined))))) (record σ { hints = hs }) → Reached T K (record σ { hints = hs })
+          go None e z = absurd z
+          go (Some (Own c n w)) e z = absurd z
+          go (Some (Seen c n w)) e z = absurd z
+          go (Some (Lacks c n)) e z = absurd z
+          go (Some (Absent c n)) e z = absurd z
+          go (Some (Names c ns)) e z = absurd z
+          go (Some (Link c l)) e z = by_end l (subst (λ q. link_at σ.heap q ≡ l) (sym z.0) (Sound.fact_is σ.heap σ.facts i (Link c l) v.facts e).0) hs z.1
+          go (Some (IsKind c k)) e z = absurd z
+          go (Some Gone) e z = absurd z
+
+  use_fact : (a : ℕ) (m : Text) (T : Code') → Uses a m T → Right T (λ K. Hinted (λ i. Sym.seen_by i a m (λ w. K (Gave (Normal w)))))
   unfolding Sym.seen_by SeenAt
   use_fact a m T f = hinted T (λ i K. Sym.seen_by i a m (λ w. K (Gave (Normal w)))) by_hint
     where
@@ -247,34 +321,42 @@ module _ (r o : ℕ) where
         where
           go : (q : Option Fact) → fact_at σ.facts i ≡ q → at (SeenAt q a m (λ w. K (Gave (Normal w)))) σ → Reached T K σ
           go None e y = absurd y
-          go (Some (Own b n w)) e y = f K σ w v (Memory.get_own σ.heap a m w (subst (λ z. has σ.heap a z ≡ Some w) (sym y.1) (subst (λ z. has σ.heap z n ≡ Some w) (sym y.0) (Sound.fact_is σ.heap σ.facts i (Own b n w) v.facts e)))) y.2
-          go (Some (Seen b n w)) e y = f K σ w v (subst (λ z. get σ.heap a z ≡ Some w) (sym y.1) (subst (λ z. get σ.heap z n ≡ Some w) (sym y.0) (Sound.fact_is σ.heap σ.facts i (Seen b n w) v.facts e))) y.2
-          go (Some (Lacks b n)) e y = absurd y
+          go (Some (Own b n w)) e y = f K σ w v (ap or_undefined (Memory.get_own σ.heap a m w (subst (λ z. has σ.heap a z ≡ Some w) (sym y.1) (subst (λ z. has σ.heap z n ≡ Some w) (sym y.0) (Sound.fact_is σ.heap σ.facts i (Own b n w) v.facts e))))) y.2
+          go (Some (Seen b n w)) e y = f K σ w v (ap or_undefined (subst (λ z. get σ.heap a z ≡ Some w) (sym y.1) (subst (λ z. get σ.heap z n ≡ Some w) (sym y.0) (Sound.fact_is σ.heap σ.facts i (Seen b n w) v.facts e)))) y.2
+          go (Some (Lacks b n)) e y =
+              let k = Sound.fact_is σ.heap σ.facts i (Lacks b n) v.facts e in
+              behind a m T f K σ v (subst (λ z. has σ.heap a z ≡ None) (sym y.1) (subst (λ z. has σ.heap z n ≡ None) (sym y.0) k.0)) (subst (λ z. z < length σ.heap) (sym y.0) k.1) y.2
+          go (Some (Absent b n)) e y = f K σ Undefined v (ap or_undefined (Changes.misses_is σ.heap a m (subst (λ z. Misses σ.heap a z) (sym y.1) (subst (λ z. Misses σ.heap z n) (sym y.0) (Sound.fact_is σ.heap σ.facts i (Absent b n) v.facts e))))) y.2
+          go (Some (Names b ns)) e y =
+              let k = Sound.fact_is σ.heap σ.facts i (Names b ns) v.facts e in
+              behind a m T f K σ v (subst (λ z. has σ.heap z m ≡ None) (sym y.0) (k.0 m y.1 y.2)) (subst (λ z. z < length σ.heap) (sym y.0) k.1) y.3
+          go (Some (Link b l)) e y = absurd y
           go (Some (IsKind b n)) e y = absurd y
+          go (Some Gone) e y = absurd y
 
   pub prop_right : (b : Val) (m : Text) → Right (λ k. read_property b m >>= k) (Sym.prop b m)
   unfolding Sym.prop Sym.Pick Sym.NoIndex read_property run walk moments moments_by ◌>>=◌
-  prop_right Undefined m K σ v x = never _ K σ v x
-  prop_right Null m K σ v x = never _ K σ v x
-  prop_right (Truth t) m K σ v x = use_fact truth_prototype m (λ k. read_property (Truth t) m >>= k) (λ K σ w v e y. stepped _ (Gave (Normal w)) K σ σ (λ k g. ap (λ z. look g (k (Normal (or_undefined z))) (real σ)) e) refl refl v y) K σ v x
-  prop_right (Num z) m K σ v x = use_fact number_prototype m (λ k. read_property (Num z) m >>= k) (λ K σ w v e y. stepped _ (Gave (Normal w)) K σ σ (λ k g. ap (λ z. look g (k (Normal (or_undefined z))) (real σ)) e) refl refl v y) K σ v x
-  prop_right (Obj a) m K σ v x = use_fact a m (λ k. read_property (Obj a) m >>= k) (λ K σ w v e y. stepped _ (Gave (Normal w)) K σ σ (λ k g. ap (λ z. look g (k (Normal (or_undefined z))) (real σ)) e) refl refl v y) K σ v x
+  prop_right Undefined m K σ v x = raised_right (codes "no properties") K σ v x
+  prop_right Null m K σ v x = raised_right (codes "no properties") K σ v x
+  prop_right (Truth t) m K σ v x = use_fact truth_prototype m (λ k. read_property (Truth t) m >>= k) (λ K σ w v e y. stepped _ (Gave (Normal w)) K σ σ (λ k g. ap (λ z. look g (k (Normal z)) (real σ)) e) refl refl v y) K σ v x
+  prop_right (Num z) m K σ v x = use_fact number_prototype m (λ k. read_property (Num z) m >>= k) (λ K σ w v e y. stepped _ (Gave (Normal w)) K σ σ (λ k g. ap (λ z. look g (k (Normal z)) (real σ)) e) refl refl v y) K σ v x
+  prop_right (Obj a) m K σ v x = use_fact a m (λ k. read_property (Obj a) m >>= k) (λ K σ w v e y. stepped _ (Gave (Normal w)) K σ σ (λ k g. ap (λ z. look g (k (Normal z)) (real σ)) e) refl refl v y) K σ v x
   prop_right (Str t) m K σ v x = go (is_length m) refl x
     where
-      method : is_length m ≡ false → index_of m ≡ None → (K : Cont) (σ : Sit) (w : Val) → Valid σ → get σ.heap text_prototype m ≡ Some w → at (K (Gave (Normal w))) σ → Reached (λ k. read_property (Str t) m >>= k) K σ
+      method : is_length m ≡ false → index_of m ≡ None → Uses text_prototype m (λ k. read_property (Str t) m >>= k)
       method p q K σ w v e y = stepped _ (Gave (Normal w)) K σ σ (λ k g.
           ap (λ a. look g (k (Normal (or_undefined (first (if a then Some (Num (pos (length t))) else values.unit_at t (index_of m)) (λ u. get σ.heap text_prototype m))))) (real σ)) p
           ∙ ap (λ a. look g (k (Normal (or_undefined (first (values.unit_at t a) (λ u. get σ.heap text_prototype m))))) (real σ)) q
-          ∙ ap (λ z. look g (k (Normal (or_undefined z))) (real σ)) e) refl refl v y
+          ∙ ap (λ z. look g (k (Normal z)) (real σ)) e) refl refl v y
 
       go : (q : Bool) → is_length m ≡ q → at (Sym.Pick q (K (Gave (Normal (Num (pos (length t)))))) (Sym.NoIndex m (Hinted (λ i. Sym.seen_by i text_prototype m (λ v. K (Gave (Normal v))))))) σ → Reached (λ k. read_property (Str t) m >>= k) K σ
       go true e y = stepped _ (Gave (Normal (Num (pos (length t))))) K σ σ (λ k g. ap (λ q. look g (k (Normal (or_undefined (first (if q then Some (Num (pos (length t))) else values.unit_at t (index_of m)) (λ u. get σ.heap text_prototype m))))) (real σ)) e) refl refl v y
-      go false e y = use_fact text_prototype m (λ k. read_property (Str t) m >>= k) (method e y.0) K σ v y.1
+      go false e y = use_fact text_prototype m (λ k. read_property (Str t) m >>= k) (method e (Memory.plain_is m y.0)) K σ v y.1
 
   pub placed_right : (b : Val) (m : Text) → Right (λ k. access ItsPlace b m >>= k) (Sym.placed b m)
   unfolding Sym.placed access ◌>>=◌
-  placed_right Undefined m K σ v x = never _ K σ v x
-  placed_right Null m K σ v x = never _ K σ v x
+  placed_right Undefined m K σ v x = raised_right (codes "no properties") K σ v x
+  placed_right Null m K σ v x = raised_right (codes "no properties") K σ v x
   placed_right (Truth t) m K σ v x = over _ (Gave (Refers (Property (Truth t) m))) (λ k. refl) K σ v x
   placed_right (Num z) m K σ v x = over _ (Gave (Refers (Property (Num z) m))) (λ k. refl) K σ v x
   placed_right (Str t) m K σ v x = over _ (Gave (Refers (Property (Str t) m))) (λ k. refl) K σ v x
@@ -283,31 +365,48 @@ module _ (r o : ℕ) where
   put_right : (p : Pos) (a : ℕ) (m : Text) (w : Val) (i : ℕ) → Right (λ k. write_property p (Obj a) m w >>= k) (λ K. Sym.put_at i a m w (K (Gave (Normal w))))
   unfolding Sym.put_at
   put_right p a m w i K σ v x =
-      let g = Sound.writes σ.heap a m w i σ.facts _ x.0 v.facts x.1 in
+      let g = Sound.writes σ.heap a m w i σ.facts (λ l. at (K (Gave (Normal w))) (record σ { heap = write σ.heap a m w; facts = l })) x.0 v.facts x.1 in
       let σ1 = record σ { heap = write σ.heap a m w; facts = g.facts } in
       stepped _ (Gave (Normal w)) K σ σ1 (λ k j. Sound.property_written p (real σ) a m w k j x.0) refl refl
       (record { within = v.within; below = v.below; facts = g.are; outers = v.outers; away = v.away }) g.so
 
   pub set_prop_right : (p : Pos) (b : Val) (m : Text) (w : Val) → Right (λ k. write_property p b m w >>= k) (Sym.set_prop b m w)
-  unfolding Sym.set_prop
+  unfolding Sym.set_prop write_property
   set_prop_right p (Obj a) m w K σ v x = hinted (λ k. write_property p (Obj a) m w >>= k) (λ i K. Sym.put_at i a m w (K (Gave (Normal w)))) (put_right p a m w) K σ v x
-  set_prop_right p Undefined m w K σ v x = never _ K σ v x
-  set_prop_right p Null m w K σ v x = never _ K σ v x
-  set_prop_right p (Truth t) m w K σ v x = never _ K σ v x
-  set_prop_right p (Num z) m w K σ v x = never _ K σ v x
-  set_prop_right p (Str t) m w K σ v x = never _ K σ v x
+  set_prop_right p Undefined m w K σ v x = raised_right (codes "not writable") K σ v x
+  set_prop_right p Null m w K σ v x = raised_right (codes "not writable") K σ v x
+  set_prop_right p (Truth t) m w K σ v x = raised_right (codes "not writable") K σ v x
+  set_prop_right p (Num z) m w K σ v x = raised_right (codes "not writable") K σ v x
+  set_prop_right p (Str t) m w K σ v x = raised_right (codes "not writable") K σ v x
 
-  -- ---- new objects
+  -- ---- deletions
 
-  pub make_right : (c : Cell) → Right (λ k. Make c (λ a. k (Normal (Obj a)))) (Sym.make c)
-  unfolding Sym.make run walk moments moments_by
-  make_right c K σ v x =
-      let σ1 = record σ { heap = σ.heap ++ c ∷ []; facts = σ.facts ++ news (length σ.heap) c c.properties } in
-      stepped _ (Gave (Normal (Obj (length σ.heap)))) K σ σ1 (λ k g. refl) refl refl
-      (record { within = v.within; below = v.below; facts = Sound.facts_join _ σ.facts _ (Sound.facts_old σ.heap c σ.facts v.facts) (Sound.facts_new σ.heap c c.properties); outers = v.outers; away = v.away }) x
+  cut_right : (a : ℕ) (m : Text) (i : ℕ) → Right (λ k. delete_property (Obj a) m >>= k) (λ K. Sym.cut_at i a m (K (Gave (Normal (Truth true)))))
+  unfolding Sym.cut_at
+  cut_right a m i K σ v x =
+      let g = Sound.erases σ.heap a m i σ.facts (λ l. at (K (Gave (Normal (Truth true)))) (record σ { heap = erase σ.heap a m; facts = l })) x.0 v.facts x.1 in
+      let σ1 = record σ { heap = erase σ.heap a m; facts = g.facts } in
+      stepped _ (Gave (Normal (Truth true))) K σ σ1 (λ k j. Sound.property_erased (real σ) a m k j x.0) refl refl
+      (record { within = v.within; below = v.below; facts = g.are; outers = v.outers; away = v.away }) g.so
+
+  cut_prop_right : (b : Val) (m : Text) → Right (λ k. delete_property b m >>= k) (Sym.cut_prop b m)
+  unfolding Sym.cut_prop delete_property
+  cut_prop_right (Obj a) m K σ v x = hinted (λ k. delete_property (Obj a) m >>= k) (λ i K. Sym.cut_at i a m (K (Gave (Normal (Truth true))))) (cut_right a m) K σ v x
+  cut_prop_right Undefined m K σ v x = raised_right (codes "not deletable") K σ v x
+  cut_prop_right Null m K σ v x = raised_right (codes "not deletable") K σ v x
+  cut_prop_right (Truth t) m K σ v x = raised_right (codes "not deletable") K σ v x
+  cut_prop_right (Num z) m K σ v x = raised_right (codes "not deletable") K σ v x
+  cut_prop_right (Str t) m K σ v x = raised_right (codes "not deletable") K σ v x
+
+  pub removed_right : (q : Place) → Right (λ k. delete_place q >>= k) (Sym.removed q)
+  unfolding Sym.removed delete_place ◌>>=◌
+  removed_right (Variable x) = over _ (Gave (Normal (Truth true))) (λ k. refl)
+  removed_right (Property b m) = cut_prop_right b m
+
+  -- ---- functions
 
   pub function_right : (c : Code) → Right (λ k. make_function c r >>= k) (Sym.function r c)
-  unfolding Sym.function Sym.make make_function run walk moments moments_by ◌>>=◌
+  unfolding Sym.function Sym.make Sym.makes make_function run walk moments moments_by ◌>>=◌
   function_right c K σ v x =
       let cell = new_cell (Function (length σ.rest.codes) r) (Some function_prototype) in
       let w1 : Rest = record { codes = σ.rest.codes ++ c ∷ []; lines = σ.rest.lines; calls = σ.rest.calls; seen = σ.rest.seen } in
@@ -317,13 +416,16 @@ module _ (r o : ℕ) where
 
   -- ---- calls and loops that are known
 
-  pub known_right : (this : Val) (t : Task) → Right (λ k. t >>= k) (Sym.known r o this (λ s m e s' seen. TakesSeen t s m e s' seen))
+  pub known_right : (this : Val) (t : Task) (B : ℕ → Cont → Here) → ((i : ℕ) → Right (λ k. t >>= k) (B i)) → Right (λ k. t >>= k) (λ K. Sym.known r o this (λ s m e s' seen. TakesSeen t s m e s' seen) (λ i. B i K) K)
   unfolding Sym.known record_at
-  known_right this t K σ v x = go σ.subs x
+  known_right this t B b K σ v x = go σ.subs x
     where
-      go : (cs : List Known) → Sym.known r o this (λ s m e s' seen. TakesSeen t s m e s' seen) K σ.hints cs σ.heap σ.records σ.frame σ.facts σ.fars σ.rest σ.units → Reached (λ k. t >>= k) K σ
+      go : (cs : List Known) → Sym.known r o this (λ s m e s' seen. TakesSeen t s m e s' seen) (λ i. B i K) K σ.hints cs σ.heap σ.records σ.frame σ.facts σ.fars σ.rest σ.units → Reached (λ k. t >>= k) K σ
       go [] y = absurd y
-      go (c ∷ cs) y =
+      go (ByRow i ∷ cs) y =
+          let a = b i K (record σ { subs = cs }) (record { within = v.within; below = v.below; facts = v.facts; outers = v.outers; away = v.away }) y in
+          record { units = a.units; seen = a.seen; end = a.end; sit = a.sit; leads = a.leads; valid = a.valid; count = a.count; sees = a.sees; so = a.so }
+      go (ByRun c ∷ cs) y =
           let same : set_record c.records r (act o c.frame) ≡ c.records = ap (λ a. set_record c.records r a) (sym y.1) ∙ set-get_or c.records r (record { variables = []; constants = []; outer = None }) in
           record {
             units = c.units;

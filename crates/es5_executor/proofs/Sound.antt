@@ -1,26 +1,27 @@
 -- The executor is right: what it comes to is what the code does.
-use Rattle.std.proofs.Common.{◌≡◌, ◌≢◌, ℕ, zero, suc, ◌+◌, ◌-◌, ◌<◌, Bool, true, false, not, ◌||◌, ◌&&◌, if◌then◌else◌, List, [], ◌∷◌, ◌++◌, length, Option, Some, None, is_some, refl, sym, ap, subst, ◌∙◌, arith, ⊎_elim, bytes_eq, length-set, codes}
+use Rattle.std.proofs.Common.{map, pos, ◌≡◌, ◌≢◌, ℕ, zero, suc, ◌+◌, ◌-◌, ◌<◌, Bool, true, false, not, ◌||◌, ◌&&◌, if◌then◌else◌, List, [], ◌∷◌, ◌++◌, length, Option, Some, None, is_some, refl, sym, ap, subst, ◌∙◌, arith, ⊎_elim, bytes_eq, length-set, codes}
 use Rattle.std.proofs.lemmas.List.{set-set, set_comm}
 use Rattle.opal_base.specs.declared.place.Pos.{Pos}
-use Rattle.es5_tree.specs.Values.{Text, Val, Obj, find_own, first}
+use Rattle.es5_tree.specs.Values.{Text, Val, Truth, Num, Obj, find_own, first}
 use Rattle.es5_tree.specs.Ends.{Conversion}
-use Rattle.es5_tree.specs.Objects.Names.{is_length}
-use Rattle.es5_tree.specs.Objects.Cells.{Cell, own, put, with_property, is_array}
-use Rattle.es5_tree.specs.Objects.Links.{cell_at, get}
+use Rattle.es5_tree.specs.Objects.Names.{is_length, length_name}
+use Rattle.es5_tree.specs.Objects.Cells.{Cell, Kind, delete, own, put, with_property, is_array}
+use Rattle.es5_tree.specs.Objects.Links.{cell_at, link_at}
 use Rattle.es5_tree.specs.Intrinsics.Rows.{as_length, natural_of}
 use Rattle.es5_tree.proofs.ObjectProperties.{find_written, find_other}
 use Rattle.es5_evaluation.specs.State.{Activation, State, record_at, set_record, binding, binding_by, binds, value_in, with_variable}
 use Rattle.es5_evaluation.specs.Task.{Completion, Normal, Task, Leaves, Set, Store, ◌>>=◌, walk}
 use Rattle.es5_evaluation.specs.Values.{or_undefined}
-use Rattle.es5_evaluation.specs.Evaluate.{read_name, read_bound, write_name, write_bound, write_property, gives, type_error}
+use Rattle.es5_evaluation.specs.Evaluate.{delete_property, read_name, read_bound, write_name, write_bound, write_property, gives, type_error}
 use Rattle.es5_evaluation.specs.Run.{run}
 use Rattle.es5_rules.specs.Moments.{moments, moments_by}
 use Rattle.es5_executor.specs.Runs.{look}
-use Rattle.es5_executor.specs.Memory.{Heap, Records, Frame, has, write, assign, bound_from, Outer, value_by, IsOuter}
+use Rattle.es5_executor.specs.Memory.{Heap, Records, Frame, has, write, erase, relink, listed, assign, bound_from, Outer, value_by, IsOuter}
+use Rattle.es5_executor.proofs.Changes
 use Rattle.es5_executor.proofs.Memory
 use Rattle.es5_executor.proofs.Memory.{Alike, AllAlike}
 use Rattle.es5_executor.proofs.Sym
-use Rattle.es5_executor.proofs.Sym.{Fact, Own, Seen, Lacks, IsKind, FactIs, Facts, Outers, Away, fact_at, outer_at, rewritten, revalued, Hit, Kept, Unless, Writes, news, Rest, Known, Here, Cont, Node, Ev, Rf, Do, Nodes, No, on, on_place, Hinted, Choice, Test, VarIs, SetIs, SeenAt, KindAt, fits, act, here, there}
+use Rattle.es5_executor.proofs.Sym.{Fact, Own, Seen, Lacks, Absent, Names, Link, IsKind, Gone, OnlyNames, FactIs, Facts, Outers, Away, fact_at, outer_at, rewritten, revalued, Hit, Kept, Unless, news, Rest, Known, Here, Cont, Node, Ev, Rf, Do, Nodes, No, on, on_place, Hinted, Choice, Test, VarIs, SetIs, SeenAt, KindAt, fits, act, here, there}
 
 -- ---- facts
 
@@ -30,67 +31,212 @@ fact_is h [] i k fs e = cc
 fact_is h (l ∷ ks) zero k fs e = let p : l ≡ k = cc in subst (FactIs h) p fs.0
 fact_is h (l ∷ ks) (suc i) k fs e = fact_is h ks i k fs.1 e
 
-keep : (h : Heap) (a : ℕ) (m : Text) (v : Val) (k : Fact) → is_length m ≡ false → Kept k a m → FactIs h k → FactIs (write h a m v) k
-unfolding Kept Unless
-keep h a m v (Own b n w) p d f = go (bytes_eq m n || is_length n) refl d
+only_names : (h : Heap) (a b : ℕ) (m : Text) (v : Val) (ns : List Text) → is_length m ≡ false → OnlyNames h b ns × (b < length h) → OnlyNames (write h a m v) b (m ∷ ns) × (b < length (write h a m v))
+unfolding listed
+only_names h a b m v ns p f = (
+  λ n l q. let d = Memory.both_false _ _ l in Memory.has_other_name h a b m n v p (Memory.clash_apart m n d.0 q) ∙ f.0 n d.1 q,
+  let e = Memory.write_length h a m v in let l = f.1 in omega (arith, e, l),
+)
+
+link_stays : (h : Heap) (a b : ℕ) (m : Text) (v : Val) (l : Option ℕ) → (link_at h b ≡ l) × (b < length h) → (link_at (write h a m v) b ≡ l) × (b < length (write h a m v))
+link_stays h a b m v l f = (Memory.link_kept h a b m v ∙ f.0, let e = Memory.write_length h a m v in let i = f.1 in omega (arith, e, i))
+
+kind_stays : (h : Heap) (a b : ℕ) (m : Text) (v : Val) (k : Kind) → ((cell_at h b).kind ≡ k) × (b < length h) → ((cell_at (write h a m v) b).kind ≡ k) × (b < length (write h a m v))
+kind_stays h a b m v k f = (Memory.kind_kept h a b m v ∙ f.0, let e = Memory.write_length h a m v in let i = f.1 in omega (arith, e, i))
+
+keep : (h : Heap) (a : ℕ) (m : Text) (v : Val) → is_length m ≡ false → (k : Fact) → Kept k a m → FactIs h k → FactIs (write h a m v) (Sym.kept k m)
+unfolding Kept Unless Sym.kept Sym.unless
+keep h a m v p (Own b n w) d f = go (Memory.clash m n) refl d
   where
-    go : (t : Bool) → (bytes_eq m n || is_length n) ≡ t → Unless t (a ≢ b) → has (write h a m v) b n ≡ Some w
+    go : (t : Bool) → Memory.clash m n ≡ t → Unless t (a ≢ b) → has (write h a m v) b n ≡ Some w
     go true e x = ap (λ c. own c n) (Memory.write_other h a b m v x) ∙ f
     go false e x = Memory.has_other_name h a b m n v p e ∙ f
-keep h a m v (Seen b n w) p d f = go (bytes_eq m n || is_length n) refl d
+keep h a m v p (Seen b n w) d f = go (Memory.clash m n) refl
   where
-    go : (t : Bool) → (bytes_eq m n || is_length n) ≡ t → Unless t ⊥ → get (write h a m v) b n ≡ Some w
-    go true e x = absurd x
-    go false e x = Memory.get_other_name h a b m n v p e ∙ f
-keep h a m v (Lacks b n) p d f = (go (bytes_eq m n || is_length n) refl d, let e = Memory.write_length h a m v in let l = f.1 in omega (arith, e, l))
+    go : (t : Bool) → Memory.clash m n ≡ t → FactIs (write h a m v) (Sym.unless t (Seen b n w))
+    go true e = tt
+    go false e = Memory.get_other_name h a b m n v p e ∙ f
+keep h a m v p (Lacks b n) d f = (go (Memory.clash m n) refl d, let e = Memory.write_length h a m v in let l = f.1 in omega (arith, e, l))
   where
-    go : (t : Bool) → (bytes_eq m n || is_length n) ≡ t → Unless t (a ≢ b) → has (write h a m v) b n ≡ None
+    go : (t : Bool) → Memory.clash m n ≡ t → Unless t (a ≢ b) → has (write h a m v) b n ≡ None
     go true e x = ap (λ c. own c n) (Memory.write_other h a b m v x) ∙ f.0
     go false e x = Memory.has_other_name h a b m n v p e ∙ f.0
-keep h a m v (IsKind b k) p d f = (Memory.kind_kept h a b m v ∙ f.0, let e = Memory.write_length h a m v in let l = f.1 in omega (arith, e, l))
-
-hits : (h : Heap) (a : ℕ) (m : Text) (v : Val) (k : Fact) → is_length m ≡ false → Hit k a m → FactIs h k → FactIs (write h a m v) (Sym.hit k v)
-unfolding Hit Sym.hit
-hits h a m v (Own b n w) p d f = written h a b m n v p d.0 d.1 (Memory.has_inside h b n w f)
+keep h a m v p (Absent b n) d f = go (Memory.clash m n) refl
   where
-    written : (h : Heap) (a b : ℕ) (m n : Text) (v : Val) → is_length m ≡ false → a ≡ b → m ≡ n → b < length h → has (write h a m v) b n ≡ Some v
-    written h a b m n v p e q l = subst (λ z. has (write h a m v) z n ≡ Some v) e (subst (λ z. has (write h a m v) a z ≡ Some v) q (Memory.has_written h a m v p (subst (λ z. z < length h) (sym e) l)))
-hits h a m v (Seen b n w) p d f = absurd d
-hits h a m v (Lacks b n) p d f = subst (λ z. has (write h a m v) z n ≡ Some v) d.0 (subst (λ z. has (write h a m v) a z ≡ Some v) d.1 (Memory.has_written h a m v p (subst (λ z. z < length h) (sym d.0) f.1)))
-hits h a m v (IsKind b k) p d f = absurd d
+    go : (t : Bool) → Memory.clash m n ≡ t → FactIs (write h a m v) (Sym.unless t (Absent b n))
+    go true e = tt
+    go false e = Changes.misses_written h a b m n v p e f
+keep h a m v p (Names b ns) d f = only_names h a b m v ns p f
+keep h a m v p (Link b l) d f = link_stays h a b m v l f
+keep h a m v p (IsKind b k) d f = kind_stays h a b m v k f
+keep h a m v p Gone d f = tt
 
-pub record Wrote (h : Heap) (F : List Fact → Type 0) : Type 0 where
+written : (h : Heap) (a b : ℕ) (m n : Text) (v : Val) → is_length m ≡ false → a ≡ b → m ≡ n → b < length h → has (write h a m v) b n ≡ Some v
+written h a b m n v p e q l = subst (λ z. has (write h a m v) z n ≡ Some v) e (subst (λ z. has (write h a m v) a z ≡ Some v) q (Memory.has_written h a m v p (subst (λ z. z < length h) (sym e) l)))
+
+hits : (h : Heap) (a : ℕ) (m : Text) (v : Val) → is_length m ≡ false → (k : Fact) → Hit k a m → FactIs h k → FactIs (write h a m v) (Sym.hit k m v)
+unfolding Hit Sym.hit
+hits h a m v p (Own b n w) d f = written h a b m n v p d.0 d.1 (Memory.has_inside h b n w f)
+hits h a m v p (Seen b n w) d f = tt
+hits h a m v p (Lacks b n) d f = written h a b m n v p d.0 d.1 f.1
+hits h a m v p (Absent b n) d f = tt
+hits h a m v p (Names b ns) d f = only_names h a b m v ns p f
+hits h a m v p (Link b l) d f = link_stays h a b m v l f
+hits h a m v p (IsKind b k) d f = kind_stays h a b m v k f
+hits h a m v p Gone d f = tt
+
+-- ---- facts after a change
+
+pub record Changed (h : Heap) (F : List Fact → Type 0) : Type 0 where
   pub facts : List Fact
   pub are : Facts h facts
   pub so : F facts
 
-pub writes : (h : Heap) (a : ℕ) (m : Text) (v : Val) (i : ℕ) (ks : List Fact) (F : List Fact → Type 0) → is_length m ≡ false → Facts h ks → Writes a m v i ks F → Wrote (write h a m v) F
-unfolding Writes
-writes h a m v i [] F p fs x = record { facts = []; are = tt; so = x }
-writes h a m v zero (k ∷ ks) F p fs x =
-    let g = writes h a m v (length ks) ks (λ l. F (Sym.hit k v ∷ l)) p fs.1 x.1 in
-    record { facts = Sym.hit k v ∷ g.facts; are = (hits h a m v k p x.0 fs.0, g.are); so = g.so }
-writes h a m v (suc i) (k ∷ ks) F p fs x =
-    let g = writes h a m v i ks (λ l. F (k ∷ l)) p fs.1 x.1 in
-    record { facts = k ∷ g.facts; are = (keep h a m v k p x.0 fs.0, g.are); so = g.so }
+changes : (h h' : Heap) (H : Fact → Type 0) (f : Fact → Fact) (O : Fact → Type 0) (g : Fact → Fact) → ((k : Fact) → H k → FactIs h k → FactIs h' (f k)) → ((k : Fact) → O k → FactIs h k → FactIs h' (g k)) → (i : ℕ) (ks : List Fact) (F : List Fact → Type 0) → Facts h ks → Sym.Changes H f O g i ks F → Changed h' F
+unfolding Sym.Changes
+changes h h' H f O g p q i [] F fs x = record { facts = []; are = tt; so = x }
+changes h h' H f O g p q zero (k ∷ ks) F fs x =
+    let c = changes h h' H f O g p q (length ks) ks (λ l. F (f k ∷ l)) fs.1 x.1 in
+    record { facts = f k ∷ c.facts; are = (p k x.0 fs.0, c.are); so = c.so }
+changes h h' H f O g p q (suc i) (k ∷ ks) F fs x =
+    let c = changes h h' H f O g p q i ks (λ l. F (g k ∷ l)) fs.1 x.1 in
+    record { facts = g k ∷ c.facts; are = (q k x.0 fs.0, c.are); so = c.so }
 
-older : (h : Heap) (c : Cell) (k : Fact) → FactIs h k → FactIs (h ++ c ∷ []) k
-older h c (Own b n w) f = Memory.has_old h c b n w f
-older h c (Seen b n w) f = Memory.get_old h c b n w f
-older h c (Lacks b n) f = (ap (λ x. own x n) (Memory.old_cell h c b f.1) ∙ f.0, let e = Memory.more_objects h c in let l = f.1 in omega (arith, e, l))
-older h c (IsKind b k) f = (ap (λ x. x.kind) (Memory.old_cell h c b f.1) ∙ f.0, let e = Memory.more_objects h c in let l = f.1 in omega (arith, e, l))
-
-pub facts_old : (h : Heap) (c : Cell) (ks : List Fact) → Facts h ks → Facts (h ++ c ∷ []) ks
-facts_old h c [] fs = tt
-facts_old h c (k ∷ ks) fs = (older h c k fs.0, facts_old h c ks fs.1)
+-- the fact that the hint names is hit
+hit_at : (H : Fact → Type 0) (f : Fact → Fact) (O : Fact → Type 0) (g : Fact → Fact) (i : ℕ) (ks : List Fact) (F : List Fact → Type 0) (k : Fact) → Sym.Changes H f O g i ks F → fact_at ks i ≡ Some k → H k
+unfolding Sym.Changes fact_at
+hit_at H f O g i [] F k x e = cc
+hit_at H f O g zero (l ∷ ks) F k x e = let p : l ≡ k = cc in subst H p x.0
+hit_at H f O g (suc i) (l ∷ ks) F k x e = hit_at H f O g i ks (λ m. F (g l ∷ m)) k x.1 e
 
 pub facts_join : (h : Heap) (ks ls : List Fact) → Facts h ks → Facts h ls → Facts h (ks ++ ls)
 facts_join h [] ls a b = b
 facts_join h (k ∷ ks) ls a b = (a.0, facts_join h ks ls a.1 b)
 
+more : (h : Heap) (a : ℕ) (m : Text) (v : Val) (q : Option Fact) → is_length m ≡ false → ((k : Fact) → q ≡ Some k → Hit k a m × FactIs h k) → Facts (write h a m v) (Sym.added q m v)
+unfolding Hit Sym.added
+more h a m v None p f = tt
+more h a m v (Some (Own b n w)) p f = tt
+more h a m v (Some (Seen b n w)) p f = tt
+more h a m v (Some (Lacks b n)) p f = tt
+more h a m v (Some (Absent b n)) p f = tt
+more h a m v (Some (Names b ns)) p f = let x = f (Names b ns) refl in (written h a b m m v p x.0 refl x.1.1, tt)
+more h a m v (Some (Link b l)) p f = let x = f (Link b l) refl in (written h a b m m v p x.0 refl x.1.1, tt)
+more h a m v (Some (IsKind b k)) p f = let x = f (IsKind b k) refl in (written h a b m m v p x.0 refl x.1.1, tt)
+more h a m v (Some Gone) p f = tt
+
+pub writes : (h : Heap) (a : ℕ) (m : Text) (v : Val) (i : ℕ) (ks : List Fact) (F : List Fact → Type 0) → is_length m ≡ false → Facts h ks → Sym.Changes (λ k. Hit k a m) (λ k. Sym.hit k m v) (λ k. Kept k a m) (λ k. Sym.kept k m) i ks (λ l. F (l ++ Sym.added (fact_at ks i) m v)) → Changed (write h a m v) F
+writes h a m v i ks F p fs x =
+    let c = changes h (write h a m v) _ _ _ _ (hits h a m v p) (keep h a m v p) i ks _ fs x in
+    record { facts = c.facts ++ Sym.added (fact_at ks i) m v; are = facts_join _ c.facts _ c.are (more h a m v (fact_at ks i) p (λ k e. (hit_at (λ k. Hit k a m) _ _ _ i ks _ k x e, fact_is h ks i k fs e))); so = c.so }
+
+-- ---- a deletion
+
+cuts : (h : Heap) (a : ℕ) (m : Text) → is_length m ≡ false → (k : Fact) → Sym.Cut k a m → FactIs h k → FactIs (erase h a m) (Sym.cut k)
+unfolding Sym.Cut Sym.cut
+cuts h a m p (Own b n w) d f = erased h a b m n p d.0 d.1 (Memory.has_inside h b n w f)
+  where
+    erased : (h : Heap) (a b : ℕ) (m n : Text) → is_length m ≡ false → a ≡ b → m ≡ n → b < length h → (has (erase h a m) b n ≡ None) × (b < length (erase h a m))
+    erased h a b m n p e q l = (
+      subst (λ z. has (erase h a m) z n ≡ None) e (subst (λ z. has (erase h a m) a z ≡ None) q (Changes.erase_there h a m p (subst (λ z. z < length h) (sym e) l))),
+      let i = Changes.erase_length h a m in omega (arith, i, l),
+    )
+cuts h a m p (Seen b n w) d f = tt
+cuts h a m p (Lacks b n) d f = (Changes.erase_none h a b m n f.0, let e = Changes.erase_length h a m in let l = f.1 in omega (arith, e, l))
+cuts h a m p (Absent b n) d f = absurd d
+cuts h a m p (Names b ns) d f = absurd d
+cuts h a m p (Link b l) d f = absurd d
+cuts h a m p (IsKind b k) d f = absurd d
+cuts h a m p Gone d f = tt
+
+spares : (h : Heap) (a : ℕ) (m : Text) → (k : Fact) → Sym.Spared k a m → FactIs h k → FactIs (erase h a m) (Sym.spared k m)
+unfolding Sym.Spared Sym.spared Unless Sym.unless
+spares h a m (Own b n w) d f = go (bytes_eq m n) refl d
+  where
+    go : (t : Bool) → bytes_eq m n ≡ t → Unless t (a ≢ b) → has (erase h a m) b n ≡ Some w
+    go true e x = Changes.erase_other h a b m n x ∙ f
+    go false e x = Changes.erase_name h a b m n e ∙ f
+spares h a m (Seen b n w) d f = go (bytes_eq m n) refl
+  where
+    go : (t : Bool) → bytes_eq m n ≡ t → FactIs (erase h a m) (Sym.unless t (Seen b n w))
+    go true e = tt
+    go false e = Changes.get_erased h a b m n e ∙ f
+spares h a m (Lacks b n) d f = (Changes.erase_none h a b m n f.0, let e = Changes.erase_length h a m in let l = f.1 in omega (arith, e, l))
+spares h a m (Absent b n) d f = Changes.misses_erased h a b m n f
+spares h a m (Names b ns) d f = (λ n l q. Changes.erase_none h a b m n (f.0 n l q), let e = Changes.erase_length h a m in let l = f.1 in omega (arith, e, l))
+spares h a m (Link b l) d f = (Changes.erase_link h a b m ∙ f.0, let e = Changes.erase_length h a m in let i = f.1 in omega (arith, e, i))
+spares h a m (IsKind b k) d f = (Changes.erase_kind h a b m ∙ f.0, let e = Changes.erase_length h a m in let i = f.1 in omega (arith, e, i))
+spares h a m Gone d f = tt
+
+pub erases : (h : Heap) (a : ℕ) (m : Text) (i : ℕ) (ks : List Fact) (F : List Fact → Type 0) → is_length m ≡ false → Facts h ks → Sym.Changes (λ k. Sym.Cut k a m) Sym.cut (λ k. Sym.Spared k a m) (λ k. Sym.spared k m) i ks F → Changed (erase h a m) F
+erases h a m i ks F p fs x = changes h (erase h a m) _ _ _ _ (cuts h a m p) (spares h a m) i ks F fs x
+
+-- ---- another link
+
+links : (h : Heap) (a : ℕ) (l : Option ℕ) → (k : Fact) → Sym.Linked k a → FactIs h k → FactIs (relink h a l) (Sym.linked k l)
+unfolding Sym.Linked Sym.linked
+links h a l (Own b n w) d f = absurd d
+links h a l (Seen b n w) d f = tt
+links h a l (Lacks b n) d f = absurd d
+links h a l (Absent b n) d f = tt
+links h a l (Names b ns) d f = absurd d
+links h a l (Link b k) d f = (
+  subst (λ z. link_at (relink h a l) z ≡ l) d (Changes.relink_there h a l (subst (λ z. z < length h) (sym d) f.1)),
+  let e = Changes.relink_length h a l in let i = f.1 in omega (arith, e, i),
+)
+links h a l (IsKind b k) d f = absurd d
+links h a l Gone d f = tt
+
+unlinks : (h : Heap) (a : ℕ) (l : Option ℕ) → (k : Fact) → Sym.Unlinked k a → FactIs h k → FactIs (relink h a l) (Sym.unlinked k)
+unfolding Sym.Unlinked Sym.unlinked
+unlinks h a l (Own b n w) d f = Changes.relink_has h a b l n ∙ f
+unlinks h a l (Seen b n w) d f = tt
+unlinks h a l (Lacks b n) d f = (Changes.relink_has h a b l n ∙ f.0, let e = Changes.relink_length h a l in let i = f.1 in omega (arith, e, i))
+unlinks h a l (Absent b n) d f = tt
+unlinks h a l (Names b ns) d f = (λ n i q. Changes.relink_has h a b l n ∙ f.0 n i q, let e = Changes.relink_length h a l in let i = f.1 in omega (arith, e, i))
+unlinks h a l (Link b k) d f = (Changes.relink_other h a b l d ∙ f.0, let e = Changes.relink_length h a l in let i = f.1 in omega (arith, e, i))
+unlinks h a l (IsKind b k) d f = (Changes.relink_kind h a b l ∙ f.0, let e = Changes.relink_length h a l in let i = f.1 in omega (arith, e, i))
+unlinks h a l Gone d f = tt
+
+pub relinks : (h : Heap) (a : ℕ) (l : Option ℕ) (i : ℕ) (ks : List Fact) (F : List Fact → Type 0) → Facts h ks → Sym.Changes (λ k. Sym.Linked k a) (λ k. Sym.linked k l) (λ k. Sym.Unlinked k a) Sym.unlinked i ks F → Changed (relink h a l) F
+relinks h a l i ks F fs x = changes h (relink h a l) _ _ _ _ (links h a l) (unlinks h a l) i ks F fs x
+
+-- ---- a new object
+
+older : (h : Heap) (c : Cell) (k : Fact) → FactIs h k → FactIs (h ++ c ∷ []) k
+older h c (Own b n w) f = Memory.has_old h c b n w f
+older h c (Seen b n w) f = Memory.get_old h c b n w f
+older h c (Lacks b n) f = (ap (λ x. own x n) (Memory.old_cell h c b f.1) ∙ f.0, let e = Memory.more_objects h c in let l = f.1 in omega (arith, e, l))
+older h c (Absent b n) f = Changes.misses_old h c b n f
+older h c (Names b ns) f = (λ n i q. ap (λ x. own x n) (Memory.old_cell h c b f.1) ∙ f.0 n i q, let e = Memory.more_objects h c in let l = f.1 in omega (arith, e, l))
+older h c (Link b l) f = (ap (λ x. x.link) (Memory.old_cell h c b f.1) ∙ f.0, let e = Memory.more_objects h c in let i = f.1 in omega (arith, e, i))
+older h c (IsKind b k) f = (ap (λ x. x.kind) (Memory.old_cell h c b f.1) ∙ f.0, let e = Memory.more_objects h c in let l = f.1 in omega (arith, e, l))
+older h c Gone f = tt
+
+pub facts_old : (h : Heap) (c : Cell) (ks : List Fact) → Facts h ks → Facts (h ++ c ∷ []) ks
+facts_old h c [] fs = tt
+facts_old h c (k ∷ ks) fs = (older h c k fs.0, facts_old h c ks fs.1)
+
+-- its names
+only_these : (c : Cell) (n : Text) → listed (map (λ p. p.0) c.properties) n ≡ false → is_length n ≡ false → own c n ≡ None
+unfolding own
+only_these c n i q = let x = Memory.and_false (is_array c.kind) (is_length n) q in rw x (Changes.not_listed c.properties n i)
+
+-- the length of a new array
+its_length : (h : Heap) (c : Cell) → Facts (h ++ c ∷ []) (Sym.lengths (is_array c.kind) (length h) c.array_length)
+unfolding Sym.lengths own
+its_length h c = go (is_array c.kind) refl
+  where
+    go : (t : Bool) → is_array c.kind ≡ t → Facts (h ++ c ∷ []) (Sym.lengths t (length h) c.array_length)
+    go false e = tt
+    go true e = (ap (λ x. own x length_name) (Memory.new_cell_is h c) ∙ ap (λ t. if t && is_length length_name then Some (Num (pos c.array_length)) else find_own c.properties length_name) e, tt)
+
 pub facts_new : (h : Heap) (c : Cell) (ps : List (Text × Val)) → Facts (h ++ c ∷ []) (news (length h) c ps)
 unfolding news
-facts_new h c [] = ((ap (λ x. x.kind) (Memory.new_cell_is h c), let e = Memory.more_objects h c in omega (arith, e)), tt)
+facts_new h c [] =
+    let e = Memory.more_objects h c in
+    let i : length h < length (h ++ c ∷ []) = omega (arith, e) in
+    ((ap (λ x. x.kind) (Memory.new_cell_is h c), i), ((ap (λ x. x.link) (Memory.new_cell_is h c), i), ((λ n l q. ap (λ x. own x n) (Memory.new_cell_is h c) ∙ only_these c n l q, i), its_length h c)))
 facts_new h c (p ∷ ps) = go (own c p.0) refl (facts_new h c ps)
   where
     go : (a : Option Val) → own c p.0 ≡ a → Facts (h ++ c ∷ []) (news (length h) c ps) → Facts (h ++ c ∷ []) (elim a [ Some v ↦ Own (length h) p.0 v ∷ news (length h) c ps | None ↦ news (length h) c ps ])
@@ -232,3 +378,7 @@ property_written p s a m v k g e = ap (λ z. look g ((if z then Set a (put (cell
     fine : (t : Bool) → (not (t && is_length m) || is_some (as_length (natural_of v))) ≡ true
     fine true = ap (λ z. not z || is_some (as_length (natural_of v))) e
     fine false = refl
+
+pub property_erased : (s : State) (a : ℕ) (m : Text) (k : Completion → Task) (g : ℕ) → is_length m ≡ false → look g (delete_property (Obj a) m >>= k) s ≡ look g (k (Normal (Truth true))) (record s { heap = erase s.heap a m })
+unfolding run walk moments moments_by delete_property erase ◌>>=◌
+property_erased s a m k g e = ap (λ z. look g ((if z then type_error (codes "not deletable") else Set a (delete (cell_at s.heap a) m) (gives (Truth true))) >>= k) s) (Memory.and_false (is_array (cell_at s.heap a).kind) (is_length m) e)

@@ -9,7 +9,7 @@ use Rattle.es5_executor.specs.Runs.{Gave, Outside}
 use Rattle.es5_executor.specs.Memory.{write}
 use Rattle.es5_executor.specs.Sums.{add_code, Adds, AddLeaves, type_error_code, error_made, MakesError, AddThrows, div_code, DivPlain, DivMoved, DivExact}
 use Rattle.es5_executor.proofs.Calls.{by_call, seam, seam_behind, frame_stays, frame_inside, from_here, rest_of}
-use Rattle.es5_executor.proofs.Sym.{act}
+use Rattle.es5_executor.proofs.Sym.{ByRun, act}
 use Rattle.es5_evaluation.specs.Evaluate.{invoke}
 use Rattle.es5_executor.proofs.Codes.{code_is}
 use Rattle.es5_executor.proofs.Stepping.{stepping}
@@ -60,5 +60,5 @@ add_throws p f o h c b i t this s fn below out hn hb =
     let long = length-append s.records (act o ps ∷ []) in
     let callee = makes_error start h c (Str t) Undefined (record s { records = s.records ++ act o ps ∷ [] }) hn (omega (arith, long, hb)) in
     by_call p f o add_code this (Num i ∷ Str t ∷ []) [] s 20 (record { name = codes "$$type_error"; at = b; val = Obj h; free = true } ∷ []) [] (1 ∷ [])
-    (record { units = 12; end = Gave (Normal (Obj (length s.heap))); heap = H; records = R; frame = ps; facts = []; values = []; rest = rest_of s; seen = [] } ∷ []) 22 (Gave (Throw (Obj (length s.heap)))) _ fn refl add_own below (out, tt) tt
+    (ByRun (record { units = 12; end = Gave (Normal (Obj (length s.heap))); heap = H; records = R; frame = ps; facts = []; values = []; rest = rest_of s; seen = [] }) ∷ []) 22 (Gave (Throw (Obj (length s.heap)))) _ fn refl add_own below (out, tt) tt
     (assumption (from_here (invoke start (Obj h) Undefined (Str t ∷ [])) s o ps ps s.heap (rest_of s) 12 (Gave (Normal (Obj (length s.heap)))) _ callee, frame_stays s.records (act o ps) (act c qs), frame_inside s.records (act o ps) (act c qs), seam_behind s.records (act o ps) (act c qs) (act o ps)))

@@ -8,7 +8,7 @@ use Rattle.es5_evaluation.specs.Evaluate.{caught_by}
 use Rattle.es5_executor.specs.Runs.{Gave, Takes}
 use Rattle.es5_executor.specs.Memory.{Frame}
 use Rattle.es5_executor.specs.Trying.{last_code, Lasts, part, catch_code, Catches}
-use Rattle.es5_executor.proofs.Sym.{act}
+use Rattle.es5_executor.proofs.Sym.{ByRun, act}
 use Rattle.es5_executor.proofs.Calls.{by_call, by_caught, seam, seam_behind, frame_stays, frame_inside, from_here, rest_of}
 use Rattle.es5_executor.proofs.Codes.{code_is}
 use Rattle.es5_executor.proofs.Stepping.{stepping}
@@ -36,5 +36,5 @@ catches p f o v that s fn below =
     let long = length-append s.records (act o ps ∷ []) in
     let caught : Takes (caught_by part (record { this = that; innermost = r }) v) s1 2 (Gave (Return v)) (record s { records = R }) = by_caught part r that v s1 20 [] [] [] [] 2 (Gave (Return v)) (record s { records = R }) (omega (arith, long)) tt tt (assumption (seam (s.records ++ act o ps ∷ []) (act r qs) (act r qs))) in
     by_call p f o catch_code that (v ∷ []) [] s 20 [] [] []
-    (record { units = 2; end = Gave (Return v); heap = s.heap; records = R; frame = ps; facts = []; values = []; rest = rest_of s; seen = [] } ∷ []) 5 (Gave (Normal v)) _ fn refl catch_own below tt tt
+    (ByRun (record { units = 2; end = Gave (Return v); heap = s.heap; records = R; frame = ps; facts = []; values = []; rest = rest_of s; seen = [] }) ∷ []) 5 (Gave (Normal v)) _ fn refl catch_own below tt tt
     (assumption (from_here (caught_by part (record { this = that; innermost = r }) v) s o ps ps s.heap (rest_of s) 2 (Gave (Return v)) (record s { records = R }) caught, frame_stays s.records (act o ps) (act r qs), frame_inside s.records (act o ps) (act r qs), seam_behind s.records (act o ps) (act r qs) (act o ps)))

@@ -15,16 +15,17 @@ use Rattle.es5_tree.specs.Intrinsics.Rows.{array_of}
 use Rattle.es5_evaluation.specs.State.{record_at, set_record, binding, value_in}
 use Rattle.es5_evaluation.specs.Task.{Place, Variable, Property, Completion, Normal, Refers, Return, Throw, Break, Continue, Scope, Evaluate, Refer, Execute, Task, Done, Ask, ◌>>=◌, walk}
 use Rattle.es5_evaluation.specs.Values.{truthy, key_of, type_name, kind_name, negated, binary, or_undefined, holder_of}
-use Rattle.es5_evaluation.specs.Evaluate.{tried, at_last, instead, caught_by, Layer, Statement, layer, perform, eval_node, refer_node, exec_node, write_name, read_property, access, access_at, access_from, access_key, no_properties, ItsValue, ItsPlace, Wanted, normally, gives, gather, all, invoke, call_with, call_place, read_place, write_place, this_of, make_array, make_object, with_properties, type_of, type_of_bound, type_of_place, operated, and_then, or_else, choose, branch, type_error}
+use Rattle.es5_evaluation.specs.Evaluate.{delete_place, tried, at_last, instead, caught_by, Layer, Statement, layer, perform, eval_node, refer_node, exec_node, write_name, read_property, access, access_at, access_from, access_key, no_properties, ItsValue, ItsPlace, Wanted, normally, gives, gather, all, invoke, call_with, call_place, read_place, write_place, this_of, make_array, make_object, with_properties, type_of, type_of_bound, type_of_place, operated, and_then, or_else, choose, branch, type_error}
 use Rattle.es5_evaluation.specs.Run.{run}
 use Rattle.es5_rules.specs.Moments.{moments, moments_by}
 use Rattle.es5_executor.specs.Runs.{Gave, Outside, look, TakesSeen}
 use Rattle.es5_executor.specs.Memory.{Outer, bound_from}
 use Rattle.es5_executor.proofs.Runs.{associates}
 use Rattle.es5_executor.proofs.Sym
-use Rattle.es5_executor.proofs.Sym.{Fact, Own, Seen, Lacks, IsKind, FactIs, Facts, fact_at, outer_at, Known, Here, Cont, Node, Ev, Rf, Do, Nodes, No, on, on_place, Hinted, Test, VarIs, KindAt, act, here, there}
+use Rattle.es5_executor.proofs.Sym.{Fact, Own, Seen, Lacks, Absent, Names, Link, IsKind, Gone, FactIs, Facts, fact_at, outer_at, Known, Here, Cont, Node, Ev, Rf, Do, Nodes, No, on, on_place, Hinted, Test, VarIs, KindAt, act, here, there}
 use Rattle.es5_executor.proofs.Sound
 use Rattle.es5_executor.proofs.Right
+use Rattle.es5_executor.proofs.Hosted
 use Rattle.es5_executor.proofs.Right.{Sit, at, Code', real, Valid, Reached}
 
 -- as access_from, for a key that is known
@@ -51,6 +52,10 @@ module _ (r o : ℕ) where
           go (Some (Own b n w)) e y = absurd y
           go (Some (Seen b n w)) e y = absurd y
           go (Some (Lacks b n)) e y = absurd y
+          go (Some (Absent b n)) e y = absurd y
+          go (Some (Names b ns)) e y = absurd y
+          go (Some (Link b l)) e y = absurd y
+          go (Some Gone) e y = absurd y
           go (Some (IsKind b n)) e y = Right.stepped r o _ (Gave (Normal (Str (kind_name n)))) K σ σ (λ k g. ap (λ z. look g (k (Normal (Str (kind_name z)))) (real r o σ)) (ap (λ z. (cell_at σ.heap z).kind) y.0 ∙ (Sound.fact_is σ.heap σ.facts i (IsKind b n) v.facts e).0)) refl refl v y.1
   typed_right Undefined K σ v x = Right.stepped r o _ (Gave (Normal (Str (type_name [] Undefined)))) K σ σ (λ k g. refl) refl refl v x
   typed_right Null K σ v x = Right.stepped r o _ (Gave (Normal (Str (type_name [] Null)))) K σ σ (λ k g. refl) refl refl v x
@@ -86,9 +91,9 @@ module _ (r o : ℕ) where
   index_value : (p : Pos) (b : Val) (q : Option Text) → Right.Right r o (λ k. keyed (holder_of b) p ItsValue b q >>= k) (λ K. Sym.named q (λ m. Sym.prop b m K))
   unfolding Sym.named access Sym.prop
   index_value p Undefined None K σ v x = Right.never r o _ K σ v x
-  index_value p Undefined (Some m) K σ v x = Right.never r o _ K σ v x
+  index_value p Undefined (Some m) K σ v x = Right.raised_right r o (codes "no properties") K σ v x
   index_value p Null None K σ v x = Right.never r o _ K σ v x
-  index_value p Null (Some m) K σ v x = Right.never r o _ K σ v x
+  index_value p Null (Some m) K σ v x = Right.raised_right r o (codes "no properties") K σ v x
   index_value p (Truth t) None K σ v x = Right.never r o _ K σ v x
   index_value p (Truth t) (Some m) K σ v x = Right.prop_right r o (Truth t) m K σ v x
   index_value p (Num z) None K σ v x = Right.never r o _ K σ v x
@@ -101,9 +106,9 @@ module _ (r o : ℕ) where
   index_place : (p : Pos) (b : Val) (q : Option Text) → Right.Right r o (λ k. keyed (holder_of b) p ItsPlace b q >>= k) (λ K. Sym.named q (λ m. Sym.placed b m K))
   unfolding Sym.named Sym.placed
   index_place p Undefined None K σ v x = Right.never r o _ K σ v x
-  index_place p Undefined (Some m) K σ v x = Right.never r o _ K σ v x
+  index_place p Undefined (Some m) K σ v x = Right.raised_right r o (codes "no properties") K σ v x
   index_place p Null None K σ v x = Right.never r o _ K σ v x
-  index_place p Null (Some m) K σ v x = Right.never r o _ K σ v x
+  index_place p Null (Some m) K σ v x = Right.raised_right r o (codes "no properties") K σ v x
   index_place p (Truth t) None K σ v x = Right.never r o _ K σ v x
   index_place p (Truth t) (Some m) K σ v x = Right.placed_right r o (Truth t) m K σ v x
   index_place p (Num z) None K σ v x = Right.never r o _ K σ v x
@@ -148,9 +153,18 @@ module _ (r o : ℕ) where
       all_right [] = Right.over r o _ (Gave (Normal Undefined)) (λ k. refl)
       all_right (t ∷ ts) = Right.bind r o (λ k. Ask (Execute t (ρ)) k) (E (Do t)) (λ v. all ts (ρ)) (λ v. Sym.alls r o this E ts) (right (Do t)) (λ v. all_right ts)
 
+      invoked_right : (p : Pos) (f that : Val) (vs : List Val) → Right.Right r o (λ k. invoke p f that vs >>= k) (Sym.invoked r o this E p f that vs)
+      unfolding Sym.invoked invoke
+      invoked_right p (Obj f) that vs K σ v x = Right.known_right r o this (invoke p (Obj f) that vs) (λ i. Sym.by_row r o this i (Obj f) that vs) (λ i. Hosted.by_row_right r o this p i f that vs) K σ v x
+      invoked_right p Undefined that vs K σ v x = Right.raised_right r o (codes "not a function") K σ v x
+      invoked_right p Null that vs K σ v x = Right.raised_right r o (codes "not a function") K σ v x
+      invoked_right p (Truth b) that vs K σ v x = Right.raised_right r o (codes "not a function") K σ v x
+      invoked_right p (Num z) that vs K σ v x = Right.raised_right r o (codes "not a function") K σ v x
+      invoked_right p (Str t) that vs K σ v x = Right.raised_right r o (codes "not a function") K σ v x
+
       called_right : (p : Pos) (args : List EsExpr) (that f : Val) → Right.Right r o (λ k. call_with p args (ρ) that f >>= k) (Sym.called r o this E p args that f)
       unfolding Sym.called
-      called_right p args that f = gather_right args [] (λ vs. invoke p f that vs) (λ vs. Sym.known r o this (λ s m e s' seen. TakesSeen (invoke p f that vs) s m e s' seen)) (λ vs. Right.known_right r o this (invoke p f that vs))
+      called_right p args that f = gather_right args [] (λ vs. invoke p f that vs) (λ vs. Sym.invoked r o this E p f that vs) (λ vs. invoked_right p f that vs)
 
       one : (e : EsExpr) (F : Val → Task) (G : Val → Cont → Here) → ((v : Val) → Right.Right r o (λ k. F v >>= k) (G v)) → Right.Right r o (λ k. Ask (Evaluate e (ρ)) (λ c. normally F c >>= k)) (λ K. E (Ev e) (on (λ v. G v K) K))
       one e F G f = Right.bind r o (λ k. Ask (Evaluate e (ρ)) k) (E (Ev e)) F G (right (Ev e)) f
@@ -198,7 +212,7 @@ module _ (r o : ℕ) where
       eval_right (EsKind-F.Not e) p = one e (λ v. gives (Truth (not (truthy v)))) (λ v K. K (Gave (Normal (Truth (not (truthy v)))))) (λ v. Right.over r o _ (Gave (Normal (Truth (not (truthy v))))) (λ k. refl))
       eval_right (EsKind-F.Neg e) p = one e (λ v. operated p (negated v)) (λ v. Sym.result p (negated v)) (λ v. Right.result_right r o p (negated v))
       eval_right (EsKind-F.Typeof e) p = Right.bind_place r o (λ k. Ask (Refer e (ρ)) k) (E (Rf e)) (type_of_place r) type_of (λ q. Sym.typed_place r o this E q) Sym.typed (right (Rf e)) (λ q. type_of_place_right q E this) typed_right
-      eval_right (EsKind-F.Delete e) p = Right.never r o _
+      eval_right (EsKind-F.Delete e) p = Right.bind_place r o (λ k. Ask (Refer e (ρ)) k) (E (Rf e)) delete_place (λ v. gives (Truth true)) (λ q. Sym.removed q) (λ v K. K (Gave (Normal (Truth true)))) (right (Rf e)) (λ q. Right.removed_right r o q) (λ v. Right.over r o _ (Gave (Normal (Truth true))) (λ k. refl))
       eval_right (EsKind-F.Binary op a b) p = two a b (λ v w. operated p (binary op v w)) (Sym.operate p op) (Right.operate_right r o p op)
       eval_right (EsKind-F.And a b) p = one a (λ v. and_then (truthy v) v b (ρ)) (λ v K. Test (truthy v) (E (Ev b) K) (K (Gave (Normal v)))) (λ v. choices (truthy v) (λ t. and_then t v b (ρ)) (E (Ev b)) (λ K. K (Gave (Normal v))) (right (Ev b)) (Right.over r o _ (Gave (Normal v)) (λ k. refl)))
       eval_right (EsKind-F.Or a b) p = one a (λ v. or_else (truthy v) v b (ρ)) (λ v K. Test (truthy v) (K (Gave (Normal v))) (E (Ev b) K)) (λ v. choices (truthy v) (λ t. or_else t v b (ρ)) (λ K. K (Gave (Normal v))) (E (Ev b)) (Right.over r o _ (Gave (Normal v)) (λ k. refl)) (right (Ev b)))
@@ -249,7 +263,7 @@ module _ (r o : ℕ) where
       tries_right (Some part) fin (Throw w) K σ v x =
           Right.as_code r o _ (λ k. caught_by part (ρ) w >>= (λ c. at_last fin (ρ) c >>= k)) K σ
           (λ k g. ap (λ t. look g t (real r o σ)) (associates (caught_by part (ρ) w) (at_last fin (ρ)) k))
-          (Right.bind_end r o (λ k. caught_by part (ρ) w >>= k) (Sym.known r o this (λ s m e s' seen. TakesSeen (caught_by part (ρ) w) s m e s' seen)) (at_last fin (ρ)) (Sym.lasts r o this E fin) (lasts_out fin) (Right.known_right r o this (caught_by part (ρ) w)) (lasts_right fin) K σ v x)
+          (Right.bind_end r o (λ k. caught_by part (ρ) w >>= k) (λ K. Sym.known r o this (λ s m e s' seen. TakesSeen (caught_by part (ρ) w) s m e s' seen) (λ i. No) K) (at_last fin (ρ)) (Sym.lasts r o this E fin) (lasts_out fin) (Right.known_right r o this (caught_by part (ρ) w) (λ i K. No) (λ i. Right.never r o _)) (lasts_right fin) K σ v x)
       tries_right (Some part) fin (Normal w) K σ v x = lasts_right fin (Normal w) K σ v x
       tries_right (Some part) fin (Refers q) K σ v x = lasts_right fin (Refers q) K σ v x
       tries_right (Some part) fin (Return w) K σ v x = lasts_right fin (Return w) K σ v x
@@ -269,7 +283,7 @@ module _ (r o : ℕ) where
       exec_right (EsStmt-F.Expr e) = right (Ev e)
       exec_right (EsStmt-F.Block body) = all_right body
       exec_right (EsStmt-F.If t a b) = one t (λ v. branch (truthy v) a b (ρ)) (λ v K. Test (truthy v) (E (Do a) K) (Sym.second r o this E b K)) (λ v. choices (truthy v) (λ c. branch c a b (ρ)) (E (Do a)) (Sym.second r o this E b) (right (Do a)) (second_right a b))
-      exec_right (EsStmt-F.While t body) = Right.known_right r o this (exec_node (EsStmt-F.While t body) (ρ))
+      exec_right (EsStmt-F.While t body) = Right.known_right r o this (exec_node (EsStmt-F.While t body) (ρ)) (λ i K. No) (λ i. Right.never r o _)
       exec_right (EsStmt-F.Return None) = Right.over r o _ (Gave (Return Undefined)) (λ k. refl)
       exec_right (EsStmt-F.Return (Some e)) = one e (λ v. Done (Return v)) (λ v K. K (Gave (Return v))) (λ v. Right.over r o _ (Gave (Return v)) (λ k. refl))
       exec_right EsStmt-F.Break = Right.over r o _ (Gave Break) (λ k. refl)
