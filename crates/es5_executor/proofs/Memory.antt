@@ -1,5 +1,5 @@
 -- Laws of objects and variables.
-use Rattle.std.proofs.Common.{map, not, nat_lt, ltb-true, pos, ◌≡◌, ◌≢◌, ℕ, zero, suc, ◌+◌, ◌-◌, ◌<◌, ◌≤◌, Bool, true, false, ◌||◌, ◌&&◌, ◌⊎◌, if◌then◌else◌, List, [], ◌∷◌, ◌++◌, length, set, Option, Some, None, is_some, refl, sym, ap, subst, ◌∙◌, arith, inl, inr, ⊎_elim, bytes_eq, length-append, length-set}
+use Rattle.std.proofs.Common.{max, map, not, nat_lt, ltb-true, pos, ◌≡◌, ◌≢◌, ℕ, zero, suc, ◌+◌, ◌-◌, ◌<◌, ◌≤◌, Bool, true, false, ◌||◌, ◌&&◌, ◌⊎◌, if◌then◌else◌, List, [], ◌∷◌, ◌++◌, length, set, Option, Some, None, is_some, refl, sym, ap, subst, ◌∙◌, arith, inl, inr, ⊎_elim, bytes_eq, length-append, length-set}
 use Rattle.std.proofs.lemmas.Bool.{cases_lt}
 use Rattle.std.proofs.lemmas.List.{get_or-set_same, get_or-set_other, get_or_past, get_or_append_left}
 use Rattle.std.proofs.Math.Seq.{get_or-append_seam}
@@ -7,10 +7,10 @@ use Rattle.std.proofs.lemmas.Slice.Eq.{bytes_eq-Decides}
 use Rattle.std.specs.Int.Digits.{digits_of, number_from_digits, AllBelowBase}
 use Rattle.std.proofs.lemmas.Int.Digits.{all_below_base_digits_of, number_digits_of}
 use Rattle.es5_tree.specs.Values.{Text, Val, Num, find_own, first}
-use Rattle.es5_tree.specs.Objects.Names.{decimal, index_of, is_length}
-use Rattle.es5_tree.specs.Objects.Cells.{Cell, Object, new_cell, is_array, is_array_length, own, put, with_length, length_past, with_value, with_property, whole}
+use Rattle.es5_tree.specs.Objects.Names.{decimal, index_end, index_of, is_length, length_name}
+use Rattle.es5_tree.specs.Objects.Cells.{Cell, Object, Host, Array, new_cell, is_array, is_array_length, own, put, with_length, length_past, with_value, with_property, whole}
 use Rattle.es5_tree.specs.Objects.Links.{cell_at, link_at, chain, first_of_chain, first_own, get}
-use Rattle.es5_tree.proofs.ObjectProperties.{find_written, find_other, index_spelled}
+use Rattle.es5_tree.proofs.ObjectProperties.{find_written, find_other, index_spelled, spelled_index}
 use Rattle.es5_evaluation.specs.State.{Activation, record_at, set_record, binding_by, binds, with_variable}
 use Rattle.es5_executor.specs.Memory.{assign, plain, Heap, Records, has, write}
 
@@ -140,6 +140,14 @@ plain_is m e = go (index_of m) refl
     go None f = f
     go (Some i) f = true_not_false (plain m) e (ap plain (index_spelled m i f).0 ∙ not_plain i)
 
+pub plain_length : plain length_name ≡ true
+unfolding plain
+plain_length = refl
+
+-- an index is no other name that begins with no digit
+pub decimal_apart : (i : ℕ) (n : Text) → plain n ≡ true → bytes_eq (decimal i) n ≡ false
+decimal_apart i n e = ⊎_elim (λ (t : bytes_eq (decimal i) n ≡ true). true_not_false (plain n) e (ap plain (sym (eq_of (decimal i) n t)) ∙ not_plain i)) (λ f. f) (either (bytes_eq (decimal i) n))
+
 -- a write of the name m can change a property of the name n: the same one, or the length of an array by an element
 unfoldable pub clash : Text → Text → Bool
 clash m n = bytes_eq m n || (is_length n && not (plain m))
@@ -168,6 +176,23 @@ put_other c m n v p e =
     lengths false t k i x f = refl
     lengths true false k i x f = refl
     lengths true true k i x f = ap (λ j. Some (Num (pos (length_past k j)))) (f refl)
+
+-- the length of an array after a write behind its end
+pub put_longer : (c : Cell) (n : ℕ) (v : Val) → c.kind ≡ Array → own c length_name ≡ Some (Num (pos n)) → n < index_end → own (put c (decimal n) v) length_name ≡ Some (Num (pos (n + 1)))
+unfolding own put with_value
+put_longer c n v k len below =
+    let x = and_false (is_array c.kind) (is_length (decimal n)) (decimal_apart n length_name plain_length) in
+    let l : c.array_length ≡ n = its (ap (λ z. if is_array z && is_length length_name then Some (Num (pos c.array_length)) else find_own c.properties length_name) (sym k) ∙ len) in
+    rw x (ap (λ z. if is_array z && is_length length_name then Some (Num (pos (if is_array z then length_past c.array_length (index_of (decimal n)) else c.array_length))) else find_own (with_property c.properties (decimal n) v) length_name) k
+    ∙ ap (λ j. Some (Num (pos (length_past c.array_length j)))) (spelled_index (decimal n) n refl below)
+    ∙ ap (λ j. Some (Num (pos (max j (n + 1))))) l
+    ∙ ap (λ j. Some (Num (pos j))) (larger n))
+  where
+    its : Some (Num (pos c.array_length)) ≡ Some (Num (pos n)) → c.array_length ≡ n
+    its e = cc
+
+    larger : (m : ℕ) → max m (m + 1) ≡ m + 1
+    larger m = omega arith
 
 put_there : (c : Cell) (m : Text) (v : Val) → is_length m ≡ false → own (put c m v) m ≡ Some v
 unfolding own put with_value
@@ -354,3 +379,10 @@ record_inside R b x v e = ⊎_elim (λ l. l) (λ l. absurd (let f : None ≡ Som
 pub assign_length : (R : Records) (b : ℕ) (x : Text) (v : Val) → length (assign R b x v) ≡ length R
 unfolding assign
 assign_length R b x v = length-set R b _
+
+-- an object of another kind than the empty one past the end is there
+pub host_inside : (h : Heap) (a k : ℕ) → (cell_at h a).kind ≡ Host k → ((cell_at h a).kind ≡ Host k) × (a < length h)
+host_inside h a k e = (e, ⊎_elim (λ l. l) (λ l. absurd (no l)) (cases_lt a (length h)))
+  where
+    no : length h ≤ a → ⊥
+    no l = let f : Object ≡ Host k = sym (ap (λ c. c.kind) (past_end h a l)) ∙ e in cc

@@ -8,8 +8,7 @@ use Rattle.es5_evaluation.specs.Task.{Normal, Throw, Execute}
 use Rattle.es5_evaluation.specs.Evaluate.{invoke}
 use Rattle.es5_executor.specs.Builders.{name, call, assign}
 use Rattle.es5_executor.specs.Runs.{Gave, Takes, Does}
-use Rattle.es5_executor.specs.Memory.{Frame, IsOuter}
-use Rattle.es5_executor.specs.Sums.{record_of}
+use Rattle.es5_executor.specs.Memory.{record_of, Frame, IsOuter}
 
 -- x = f(y, z); where the call answers a
 abbrev pub CallAnswers : Type 0

@@ -10,8 +10,7 @@ use Rattle.es5_evaluation.specs.Task.{Normal}
 use Rattle.es5_evaluation.specs.Evaluate.{invoke}
 use Rattle.es5_executor.specs.Builders.{name, at, index, binary, null, assign, var, while, code}
 use Rattle.es5_executor.specs.Runs.{Gave, Takes}
-use Rattle.es5_executor.specs.Memory.{Heap, Frame, IsFunction, has, write}
-use Rattle.es5_executor.specs.Sums.{record_of}
+use Rattle.es5_executor.specs.Memory.{record_of, Heap, Frame, IsFunction, has, write}
 
 abbrev pub next_name : Text
 next_name = codes "$$next"

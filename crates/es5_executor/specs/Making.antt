@@ -11,9 +11,9 @@ use Rattle.es5_evaluation.specs.Task.{Normal}
 use Rattle.es5_evaluation.specs.Evaluate.{invoke, arguments_object}
 use Rattle.es5_executor.specs.Builders.{name, num, str, this, at, member, binary, call, assign, var, return, code}
 use Rattle.es5_executor.specs.Runs.{Gave, Takes}
-use Rattle.es5_executor.specs.Memory.{Frame, IsFunction, IsOuter, has, write}
+use Rattle.es5_executor.specs.Memory.{record_of, Frame, IsFunction, IsOuter, has, write}
 use Rattle.es5_executor.specs.Memory as memory
-use Rattle.es5_executor.specs.Sums.{record_of, fits}
+use Rattle.es5_executor.specs.Sums.{fits}
 
 -- function(c) { var x = Object.create(c["$$proto"]); x["$$id"] = $$next_id; $$next_id = $$next_id + 1; return x; }
 abbrev pub make_code : Code

@@ -7,7 +7,8 @@ use Rattle.es5_evaluation.specs.State.{State}
 use Rattle.es5_evaluation.specs.Task.{Normal, Done, ◌>>=◌, Ended}
 use Rattle.es5_evaluation.specs.Evaluate.{invoke}
 use Rattle.es5_evaluation.specs.Run.{run}
-use Rattle.es5_executor.specs.Sums.{add_code, record_of}
+use Rattle.es5_executor.specs.Memory.{record_of}
+use Rattle.es5_executor.specs.Sums.{add_code}
 
 abbrev pub ready : State
 ready = record { heap = new_cell (Function 0 0) None ∷ []; codes = add_code ∷ []; records = record { variables = []; constants = []; outer = None } ∷ []; lines = record { input = []; read = 0 }; calls = [] }

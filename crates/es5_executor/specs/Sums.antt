@@ -14,10 +14,7 @@ use Rattle.es5_evaluation.specs.Evaluate.{invoke}
 use Rattle.opal_base.specs.declared.place.Pos.{Pos}
 use Rattle.es5_executor.specs.Builders.{name, str, at, object, binary, typeof, and, call, assign, var, when, return, throw, code, num}
 use Rattle.es5_executor.specs.Runs.{Gave, Outside, Takes}
-use Rattle.es5_executor.specs.Memory.{IsFunction, IsOuter, Frame, write}
-
-abbrev pub record_of : ℕ → Frame → Activation
-record_of o ps = record { variables = ps; constants = []; outer = Some o }
+use Rattle.es5_executor.specs.Memory.{record_of, IsFunction, IsOuter, Frame, write}
 
 abbrev pub truth_eq : Bool → Bool → Bool
 truth_eq a b = same (Truth a) (Truth b)

@@ -9,8 +9,7 @@ use Rattle.es5_evaluation.specs.Task.{Normal, Throw}
 use Rattle.es5_evaluation.specs.Evaluate.{invoke}
 use Rattle.es5_executor.specs.Builders.{name, at, this, assign, return, throw, code}
 use Rattle.es5_executor.specs.Runs.{Gave, Takes}
-use Rattle.es5_executor.specs.Memory.{IsFunction, write}
-use Rattle.es5_executor.specs.Sums.{record_of}
+use Rattle.es5_executor.specs.Memory.{record_of, IsFunction, write}
 
 -- function(x) { try { throw x; } finally { this["a"] = x; } }
 abbrev pub last_code : Code

@@ -2,11 +2,15 @@
 
 ghost use Rattle.es5_executor.specs.Bridge.{CallAnswers, CallThrows};
 ghost use Rattle.es5_executor.specs.Define.{DefineWrites, Defines};
+ghost use Rattle.es5_executor.specs.Hosting.{Applies, Lists, Pushes, Writes};
+ghost use Rattle.es5_executor.specs.Linking.{CallOfNull, Links, ReadThrows};
 ghost use Rattle.es5_executor.specs.Making.{Makes, Stubs};
+ghost use Rattle.es5_executor.specs.Owning.{Deletes, Owns, OwnsNot, VariableMisses, VariableReads};
 ghost use Rattle.es5_executor.specs.Runs.{Sequence};
 ghost use Rattle.es5_executor.specs.Seen.{TwoAndThree};
 ghost use Rattle.es5_executor.specs.Trying.{Catches, Lasts};
 ghost use Rattle.es5_executor.specs.Sums.{AddLeaves, AddThrows, Adds, DivExact, DivMoved, DivPlain, MakesError};
+ghost use Rattle.es5_executor.specs.Texts.{JoinLeaves, Joins, UnitReads};
 
 /// One run after another takes the units of both.
 pub fn sequence()
@@ -22,7 +26,7 @@ pub fn sum_runs()
     ensures two_and_three { TwoAndThree }
 {}
 
-/// Floor division by its three paths.
+/// Division by the rest of `%`, by its three paths.
 pub fn quotient_runs()
     ensures exact { DivExact }
     ensures plain { DivPlain }
@@ -51,4 +55,55 @@ pub fn try_runs()
 pub fn call_runs()
     ensures answers { CallAnswers }
     ensures throws { CallThrows }
+{}
+
+/// A look-up of an own property, by `call` of an intrinsic function.
+pub fn lookup_runs()
+    ensures owns { Owns }
+    ensures owns_not { OwnsNot }
+{}
+
+/// A property is deleted, and then absent along the links.
+pub fn delete_runs()
+    ensures { Deletes }
+{}
+
+/// A property along the links is read, or absent.
+pub fn variable_runs()
+    ensures reads { VariableReads }
+    ensures misses { VariableMisses }
+{}
+
+/// Sums and methods of texts.
+pub fn text_runs()
+    ensures joins { Joins }
+    ensures leaves { JoinLeaves }
+    ensures unit { UnitReads }
+{}
+
+/// A new object gets its link and a property.
+pub fn link_runs()
+    ensures { Links }
+{}
+
+/// Errors of the machine are thrown.
+pub fn error_runs()
+    ensures read { ReadThrows }
+    ensures call { CallOfNull }
+{}
+
+/// The host is called, in these states.
+pub fn write_runs()
+    ensures { Writes }
+{}
+
+/// A function of the script is called with the values of a list.
+pub fn apply_runs()
+    ensures { Applies }
+{}
+
+/// A value is put at the end of an array, and the names of an object are listed.
+pub fn list_runs()
+    ensures pushes { Pushes }
+    ensures lists { Lists }
 {}
