@@ -27,7 +27,7 @@ either false = inr refl
 pub eq_of : (m n : Text) → bytes_eq m n ≡ true → m ≡ n
 eq_of m n e = (bytes_eq-Decides m n).0 e
 
-true_not_false : {X : Type 0} (b : Bool) → b ≡ true → b ≡ false → X
+pub true_not_false : {X : Type 0} (b : Bool) → b ≡ true → b ≡ false → X
 true_not_false b e f = cc
 
 pub differ : (m n : Text) → bytes_eq m n ≡ false → m ≡ n → ⊥
@@ -164,7 +164,7 @@ both_true : (a b : Bool) → (a && b) ≡ false → a ≡ true → b ≡ false
 both_true true b e f = e
 both_true false b e f = cc
 
-put_other : (c : Cell) (m n : Text) (v : Val) → is_length m ≡ false → clash m n ≡ false → own (put c m v) n ≡ own c n
+pub put_other : (c : Cell) (m n : Text) (v : Val) → is_length m ≡ false → clash m n ≡ false → own (put c m v) n ≡ own c n
 unfolding own put with_value clash
 put_other c m n v p e =
     let d = both_false _ _ e in
@@ -194,7 +194,7 @@ put_longer c n v k len below =
     larger : (m : ℕ) → max m (m + 1) ≡ m + 1
     larger m = omega arith
 
-put_there : (c : Cell) (m : Text) (v : Val) → is_length m ≡ false → own (put c m v) m ≡ Some v
+pub put_there : (c : Cell) (m : Text) (v : Val) → is_length m ≡ false → own (put c m v) m ≡ Some v
 unfolding own put with_value
 put_there c m v p = let x = and_false (is_array c.kind) (is_length m) p in rw x (rw x (find_written c.properties m v))
 

@@ -1,5 +1,5 @@
 -- The executor is right, node by node.
-use Rattle.std.proofs.Common.{codes, nat_le, append-nil, append_assoc, ◌≡◌, ℕ, zero, suc, ◌+◌, ◌<◌, Bool, true, false, if◌then◌else◌, List, [], ◌∷◌, ◌++◌, length, Option, Some, None, pos, refl, sym, ap, subst, ◌∙◌, arith, ℤ, ◌+ℤ◌, ◌-ℤ◌, ◌*ℤ◌, int_div, int_rem}
+use Rattle.std.proofs.Common.{map, codes, nat_le, append-nil, append_assoc, ◌≡◌, ℕ, zero, suc, ◌+◌, ◌<◌, Bool, true, false, if◌then◌else◌, List, [], ◌∷◌, ◌++◌, length, Option, Some, None, pos, refl, sym, ap, subst, ◌∙◌, arith, ℤ, ◌+ℤ◌, ◌-ℤ◌, ◌*ℤ◌, int_div, int_rem}
 use Rattle.std.proofs.lemmas.List.{set-get_or}
 use Rattle.opal_base.specs.declared.place.Pos.{Pos}
 use Rattle.es5_tree.specs.declared.tree.Operator.{Operator}
@@ -10,11 +10,12 @@ use Rattle.es5_tree.specs.Objects.Names.{is_length, index_of}
 use Rattle.es5_tree.specs.Objects.Cells.{Cell, Function, new_cell, with_property}
 use Rattle.es5_tree.specs.Objects.Links.{get, link_at}
 use Rattle.es5_tree.specs.Intrinsics.Made.{function_prototype, number_prototype, truth_prototype, text_prototype}
+use Rattle.es5_tree.specs.Intrinsics.Rows.{array_of}
 use Rattle.es5_evaluation.specs.State.{Code, State, record_at, set_record, value_in}
 use Rattle.es5_evaluation.specs.Task.{Place, Variable, Property, Completion, Normal, Refers, Return, Throw, Break, Continue, Request, Task, Done, Ask, Make, ◌>>=◌, walk}
 use Rattle.es5_evaluation.specs.Values.{Result, Is, Out, largest, truthy, key_of, type_name, kind_name, negated, binary, is_zero, or_undefined, in_range, quotient, remainder}
 use Rattle.es5_evaluation.specs.Values as values
-use Rattle.es5_evaluation.specs.Evaluate.{delete_place, delete_property, error_object, raise, type_error, perform, read_name, write_name, read_property, write_property, access, ItsPlace, normally, referred, make_function, operated}
+use Rattle.es5_evaluation.specs.Evaluate.{make_array, delete_place, delete_property, error_object, raise, type_error, perform, read_name, write_name, read_property, write_property, access, ItsPlace, normally, referred, make_function, operated}
 use Rattle.es5_evaluation.specs.Run.{run}
 use Rattle.es5_rules.specs.Moments.{moments, moments_by}
 use Rattle.es5_rules.proofs.Steps.{steps_count}
@@ -261,6 +262,14 @@ module _ (r o : ℕ) where
   pub make_right : (c : Cell) → Right (λ k. Make c (λ a. k (Normal (Obj a)))) (Sym.make c)
   unfolding Sym.make
   make_right c = makes_right c (λ v. Gave (Normal v))
+
+  pub arrayed_right : (vs : List Val) → Right (λ k. make_array vs >>= k) (Sym.arrayed vs)
+  unfolding Sym.arrayed make_array run walk moments moments_by ◌>>=◌
+  arrayed_right vs K σ v x =
+      let c = array_of (map (λ v. Some v) vs) in
+      let σ1 = record σ { heap = σ.heap ++ c ∷ []; facts = σ.facts ++ (Sym.items (length σ.heap) 0 vs ++ Sym.listing (length σ.heap) vs) } in
+      stepped _ (Gave (Normal (Obj (length σ.heap)))) K σ σ1 (λ k g. refl) refl refl
+      (record { within = v.within; below = v.below; facts = Sound.facts_join _ σ.facts _ (Sound.facts_old σ.heap c σ.facts v.facts) (Sound.facts_array σ.heap vs); outers = v.outers; away = v.away }) x
 
   pub raised_right : (message : Text) → Right (λ k. type_error message >>= k) (Sym.raised message)
   unfolding Sym.raised raise ◌>>=◌

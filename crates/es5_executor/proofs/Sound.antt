@@ -1,13 +1,14 @@
 -- The executor is right: what it comes to is what the code does.
-use Rattle.std.proofs.Common.{map, pos, ◌≡◌, ◌≢◌, ℕ, zero, suc, ◌+◌, ◌-◌, ◌<◌, Bool, true, false, not, ◌||◌, ◌&&◌, if◌then◌else◌, List, [], ◌∷◌, ◌++◌, length, Option, Some, None, is_some, refl, sym, ap, subst, ◌∙◌, arith, ⊎_elim, bytes_eq, length-set, codes}
+use Rattle.std.proofs.Common.{leb-true, nat_le, slice_get, map, pos, ◌≡◌, ◌≢◌, ℕ, zero, suc, ◌+◌, ◌-◌, ◌<◌, Bool, true, false, not, ◌||◌, ◌&&◌, if◌then◌else◌, List, [], ◌∷◌, ◌++◌, length, Option, Some, None, is_some, refl, sym, ap, subst, ◌∙◌, arith, ⊎_elim, bytes_eq, length-set, codes}
 use Rattle.std.proofs.lemmas.List.{set-set, set_comm}
 use Rattle.opal_base.specs.declared.place.Pos.{Pos}
 use Rattle.es5_tree.specs.Values.{Text, Val, Truth, Num, Obj, find_own, first}
 use Rattle.es5_tree.specs.Ends.{Conversion}
-use Rattle.es5_tree.specs.Objects.Names.{is_length, length_name}
-use Rattle.es5_tree.specs.Objects.Cells.{Cell, Kind, delete, own, put, with_property, is_array}
+use Rattle.es5_tree.specs.Objects.Names.{decimal, index_end, is_length, length_name}
+use Rattle.es5_tree.specs.Objects.Cells.{Cell, Kind, Array, new_cell, delete, own, put, with_property, is_array}
 use Rattle.es5_tree.specs.Objects.Links.{cell_at, link_at}
-use Rattle.es5_tree.specs.Intrinsics.Rows.{as_length, natural_of}
+use Rattle.es5_tree.specs.Intrinsics.Rows.{array_of, as_length, natural_of}
+use Rattle.es5_tree.specs.Intrinsics.Made.{array_prototype}
 use Rattle.es5_tree.proofs.ObjectProperties.{find_written, find_other}
 use Rattle.es5_evaluation.specs.State.{Activation, State, record_at, set_record, binding, binding_by, binds, value_in, with_variable}
 use Rattle.es5_evaluation.specs.Task.{Completion, Normal, Task, Leaves, Set, Store, ◌>>=◌, walk}
@@ -17,6 +18,7 @@ use Rattle.es5_evaluation.specs.Run.{run}
 use Rattle.es5_rules.specs.Moments.{moments, moments_by}
 use Rattle.es5_executor.specs.Runs.{look}
 use Rattle.es5_executor.specs.Memory.{Heap, Records, Frame, has, write, erase, relink, listed, assign, bound_from, Outer, value_by, IsOuter}
+use Rattle.es5_executor.proofs.Arrays
 use Rattle.es5_executor.proofs.Changes
 use Rattle.es5_executor.proofs.Memory
 use Rattle.es5_executor.proofs.Memory.{Alike, AllAlike}
@@ -242,6 +244,30 @@ facts_new h c (p ∷ ps) = go (own c p.0) refl (facts_new h c ps)
     go : (a : Option Val) → own c p.0 ≡ a → Facts (h ++ c ∷ []) (news (length h) c ps) → Facts (h ++ c ∷ []) (elim a [ Some v ↦ Own (length h) p.0 v ∷ news (length h) c ps | None ↦ news (length h) c ps ])
     go None e fs = fs
     go (Some v) e fs = (ap (λ x. own x p.0) (Memory.new_cell_is h c) ∙ e, fs)
+
+-- ---- a new array of values
+
+its_items : (h : Heap) (c : Cell) (vs : List Val) (i : ℕ) → ((j : ℕ) (v : Val) → slice_get vs j ≡ Some v → own c (decimal (i + j)) ≡ Some v) → Facts (h ++ c ∷ []) (Sym.items (length h) i vs)
+unfolding Sym.items
+its_items h c [] i f = tt
+its_items h c (v ∷ vs) i f = (
+  ap (λ x. own x (decimal i)) (Memory.new_cell_is h c) ∙ (ap (λ k. own c (decimal k)) {x = i} {y = i + 0} (omega arith) ∙ f 0 v refl),
+  its_items h c vs (i + 1) (λ j w e. ap (λ k. own c (decimal k)) {x = i + 1 + j} {y = i + suc j} (omega arith) ∙ f (suc j) w e),
+)
+
+pub facts_array : (h : Heap) (vs : List Val) → Facts (h ++ array_of (Arrays.somes vs) ∷ []) (Sym.items (length h) 0 vs ++ Sym.listing (length h) vs)
+unfolding Sym.listing Sym.lengths
+facts_array h vs =
+    let c = array_of (Arrays.somes vs) in
+    let e = Memory.more_objects h c in
+    let i : length h < length (h ++ c ∷ []) = omega (arith, e) in
+    facts_join (h ++ c ∷ []) (Sym.items (length h) 0 vs) (Sym.listing (length h) vs)
+    (its_items h c vs 0 (λ j v e. ap (λ k. own c (decimal k)) {x = 0 + j} {y = j} (omega arith) ∙ Arrays.array_item vs j v e))
+    ((ap (λ x. x.kind) (Memory.new_cell_is h c) ∙ Arrays.filled_kind vs (new_cell Array (Some array_prototype)) 0, i), ((ap (λ x. x.link) (Memory.new_cell_is h c) ∙ Arrays.filled_link vs (new_cell Array (Some array_prototype)) 0, i), go (nat_le (length vs) index_end) refl))
+  where
+    go : (t : Bool) → nat_le (length vs) index_end ≡ t → Facts (h ++ array_of (Arrays.somes vs) ∷ []) (Sym.lengths t (length h) (length vs))
+    go false q = tt
+    go true q = (ap (λ x. own x length_name) (Memory.new_cell_is h (array_of (Arrays.somes vs))) ∙ Arrays.array_length_is vs (leb-true (length vs) index_end q), tt)
 
 -- ---- variables
 

@@ -10,11 +10,11 @@ use Rattle.es5_tree.specs.declared.tree.Operator.{Operator}
 use Rattle.es5_tree.specs.declared.tree.Operator.TheVariants as operator
 use Rattle.es5_tree.specs.Values.{Text, Val, Undefined, Null, Truth, Num, Str, Obj, find_own}
 use Rattle.es5_tree.specs.Ends.{Number}
-use Rattle.es5_tree.specs.Objects.Names.{is_length, length_name}
+use Rattle.es5_tree.specs.Objects.Names.{decimal, index_end, is_length, length_name}
 use Rattle.es5_tree.specs.Objects.Cells.{Kind, Cell, Object, Array, Arguments, Function, Host, Record, is_array, new_cell, own, with_property}
 use Rattle.es5_tree.specs.Objects.Links.{cell_at, get, in_chain, link_at}
 use Rattle.es5_tree.specs.Intrinsics.Lines.{Reading}
-use Rattle.es5_tree.specs.Intrinsics.Made.{object_prototype, function_prototype, number_prototype, text_prototype, truth_prototype}
+use Rattle.es5_tree.specs.Intrinsics.Made.{array_prototype, object_prototype, function_prototype, number_prototype, text_prototype, truth_prototype}
 use Rattle.es5_tree.specs.Intrinsics.Calls.{HostFn}
 use Rattle.es5_tree.specs.Intrinsics.Calls as call
 use Rattle.es5_tree.specs.Intrinsics.Rows.{array_of, link_of, link_value}
@@ -424,6 +424,18 @@ makes c e K hs cs h R ps ks fs w n = K (e (Obj (length h))) hs cs (h ++ c ∷ []
 unfoldable pub make : Cell → Cont → Here
 make c K = makes c (λ v. Gave (Normal v)) K
 
+-- the elements of a new array
+unfoldable pub items : ℕ → ℕ → List Val → List Fact
+items a i [] = []
+items a i (v ∷ vs) = Own a (decimal i) v ∷ items a (i + 1) vs
+
+-- the facts of a new array of values
+unfoldable pub listing : ℕ → List Val → List Fact
+listing a vs = IsKind a Array ∷ Link a (Some array_prototype) ∷ lengths (nat_le (length vs) index_end) a (length vs)
+
+unfoldable pub arrayed : List Val → Cont → Here
+arrayed vs K hs cs h R ps ks fs w n = K (Gave (Normal (Obj (length h)))) hs cs (h ++ array_of (map (λ v. Some v) vs) ∷ []) R ps (ks ++ (items (length h) 0 vs ++ listing (length h) vs)) fs w n
+
 -- a TypeError is thrown
 unfoldable pub raised : Text → Cont → Here
 raised message K = makes (error_object (codes "TypeError") message) (λ v. Gave (Throw v)) K
@@ -695,7 +707,7 @@ module _ (r o : ℕ) (this : Val) where
     eval EsKind-F.Null p K = K (Gave (Normal Null))
     eval EsKind-F.This p K = K (Gave (Normal this))
     eval (EsKind-F.Name x) p K = var x K
-    eval (EsKind-F.Array items) p K = gathers items [] (λ vs. make (array_of (map (λ v. Some v) vs)) K) K
+    eval (EsKind-F.Array items) p K = gathers items [] (λ vs. arrayed vs K) K
     eval (EsKind-F.Object keys values) p K = gathers values [] (λ vs. make (with_properties (new_cell Object (Some object_prototype)) keys vs) K) K
     eval (EsKind-F.Function name params body) p K = function r (record { name = name; params = params; body = body }) K
     eval (EsKind-F.Member b m mark) p K = E (Ev b) (on (λ v. prop v m K) K)

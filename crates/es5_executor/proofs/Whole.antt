@@ -183,10 +183,6 @@ module _ (r o : ℕ) where
       unfolding make_object ◌>>=◌
       make_object_right keys vs = Right.make_right r o (with_properties (new_cell Object (Some object_prototype)) keys vs)
 
-      make_array_right : (vs : List Val) → Right.Right r o (λ k. make_array vs >>= k) (Sym.make (array_of (map (λ v. Some v) vs)))
-      unfolding make_array ◌>>=◌
-      make_array_right vs = Right.make_right r o (array_of (map (λ v. Some v) vs))
-
       choices : (b : Bool) (t : Bool → Task) (F G : Cont → Here) → Right.Right r o (λ k. t true >>= k) F → Right.Right r o (λ k. t false >>= k) G → Right.Right r o (λ k. t b >>= k) (λ K. Test b (F K) (G K))
       choices b t F G f g = Right.tested r o (λ c k. t c >>= k) b F G f g
 
@@ -203,7 +199,7 @@ module _ (r o : ℕ) where
       eval_right EsKind-F.Null p = Right.over r o _ (Gave (Normal Null)) (λ k. refl)
       eval_right EsKind-F.This p = Right.over r o _ (Gave (Normal this)) (λ k. refl)
       eval_right (EsKind-F.Name x) p = Right.var_right r o x
-      eval_right (EsKind-F.Array items) p = gather_right items [] make_array (λ vs. Sym.make (array_of (map (λ v. Some v) vs))) make_array_right
+      eval_right (EsKind-F.Array items) p = gather_right items [] make_array (λ vs. Sym.arrayed vs) (λ vs. Right.arrayed_right r o vs)
       eval_right (EsKind-F.Object keys values) p = gather_right values [] (make_object keys) (λ vs. Sym.make (with_properties (new_cell Object (Some object_prototype)) keys vs)) (make_object_right keys)
       eval_right (EsKind-F.Function name params body) p = Right.function_right r o (record { name = name; params = params; body = body })
       eval_right (EsKind-F.Member b m mark) p = one b (λ v. access ItsValue v m) (λ v. Sym.prop v m) (λ v. Right.prop_right r o v m)
