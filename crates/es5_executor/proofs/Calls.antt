@@ -1,7 +1,7 @@
 -- Calls of functions, by what their statements do.
-use Rattle.std.proofs.Common.{codes, ◌≡◌, ℕ, suc, ◌<◌, Bool, true, false, List, [], ◌∷◌, ◌++◌, length, Some, None, refl, sym, ap, subst, ◌∙◌, arith, ⊎_elim, length-append, append-nil, slice_get}
+use Rattle.std.proofs.Common.{append_assoc, codes, ◌≡◌, ℕ, suc, ◌<◌, Bool, true, false, List, [], ◌∷◌, ◌++◌, length, Some, None, refl, sym, ap, subst, ◌∙◌, arith, ⊎_elim, length-append, append-nil, slice_get}
 use Rattle.std.proofs.Math.Seq.{set-append_seam}
-use Rattle.std.proofs.lemmas.List.{set-append_left, set-get_or}
+use Rattle.std.proofs.lemmas.List.{get_or_append_left, set-append_left, set-get_or}
 use Rattle.std.proofs.lemmas.Bool.{cases_lt}
 use Rattle.opal_base.specs.declared.place.Pos.{Pos}
 use Rattle.opal_base.specs.Shown.{HostCall}
@@ -184,6 +184,22 @@ frame_inside R a b = let l = length-append R (a ∷ []) in let m = length-append
 
 pub seam_behind : (R : Records) (a b c : Activation) → set_record ((R ++ a ∷ []) ++ b ∷ []) (length R) c ≡ (R ++ c ∷ []) ++ b ∷ []
 seam_behind R a b c = let l = length-append R (a ∷ []) in set-append_left (R ++ a ∷ []) (b ∷ []) (length R) c (omega (arith, l)) ∙ ap (λ Z. Z ++ b ∷ []) (seam R a c)
+
+-- and what any call leaves that adds records behind one's own
+
+pub frame_stays_on : (R : Records) (a : Activation) (more : Records) → record_at ((R ++ a ∷ []) ++ more) (length R) ≡ a
+unfolding record_at
+frame_stays_on R a more = let l = length-append R (a ∷ []) in get_or_append_left (R ++ a ∷ []) more _ (length R) (omega (arith, l)) ∙ Memory.record_new R a
+
+pub frame_inside_on : (R : Records) (a : Activation) (more : Records) → length R < length ((R ++ a ∷ []) ++ more)
+frame_inside_on R a more = let l = length-append R (a ∷ []) in let m = length-append (R ++ a ∷ []) more in omega (arith, l, m)
+
+pub seam_behind_on : (R : Records) (a c : Activation) (more : Records) → set_record ((R ++ a ∷ []) ++ more) (length R) c ≡ (R ++ c ∷ []) ++ more
+seam_behind_on R a c more = let l = length-append R (a ∷ []) in set-append_left (R ++ a ∷ []) more (length R) c (omega (arith, l)) ∙ ap (λ Z. Z ++ more) (seam R a c)
+
+pub outers_old_on : (R more : Records) (o : ℕ) (us : List Outer) → Outers R o us → Outers (R ++ more) o us
+outers_old_on R [] o us k = subst (λ Z. Outers Z o us) (sym (append-nil R)) k
+outers_old_on R (a ∷ more) o us k = subst (λ Z. Outers Z o us) (append_assoc R (a ∷ []) more) (outers_old_on (R ++ a ∷ []) more o us (outers_old R a o us k))
 
 -- a run from a state within a call, where only one's own record was added
 pub from_here : {seen : List State} → (t : Task) (s : State) (o : ℕ) (ps0 ps : Frame) (h : Heap) (w : Rest) (n : ℕ) (e : End) (s' : State) →

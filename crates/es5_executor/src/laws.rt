@@ -11,6 +11,7 @@ ghost use Rattle.es5_executor.specs.Seen.{TwoAndThree};
 ghost use Rattle.es5_executor.specs.Trying.{Catches, Lasts};
 ghost use Rattle.es5_executor.specs.Sums.{AddLeaves, AddThrows, Adds, DivExact, DivMoved, DivPlain, MakesError};
 ghost use Rattle.es5_executor.specs.Texts.{JoinLeaves, Joins, UnitReads};
+ghost use Rattle.es5_executor.specs.Walking.{Among, ItemMisses, ItemReads};
 
 /// One run after another takes the units of both.
 pub fn sequence()
@@ -106,4 +107,15 @@ pub fn apply_runs()
 pub fn list_runs()
     ensures pushes { Pushes }
     ensures lists { Lists }
+{}
+
+/// A walk along links until one of a module is found: a loop out of which `return` jumps.
+pub fn walk_runs()
+    ensures { Among }
+{}
+
+/// An item of a list, and one past its end.
+pub fn item_runs()
+    ensures reads { ItemReads }
+    ensures misses { ItemMisses }
 {}
