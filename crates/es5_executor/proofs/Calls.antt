@@ -1,5 +1,5 @@
 -- Calls of functions, by what their statements do.
-use Rattle.std.proofs.Common.{append_assoc, codes, ◌≡◌, ℕ, suc, ◌<◌, Bool, true, false, List, [], ◌∷◌, ◌++◌, length, Some, None, refl, sym, ap, subst, ◌∙◌, arith, ⊎_elim, length-append, append-nil, slice_get}
+use Rattle.std.proofs.Common.{Option, is_some, if◌then◌else◌, ◌||◌, append_assoc, codes, ◌≡◌, ℕ, suc, ◌<◌, Bool, true, false, List, [], ◌∷◌, ◌++◌, length, Some, None, refl, sym, ap, subst, ◌∙◌, arith, ⊎_elim, length-append, append-nil, slice_get}
 use Rattle.std.proofs.Math.Seq.{set-append_seam}
 use Rattle.std.proofs.lemmas.List.{get_or_append_left, set-append_left, set-get_or}
 use Rattle.std.proofs.lemmas.Bool.{cases_lt}
@@ -15,8 +15,8 @@ use Rattle.es5_tree.specs.declared.tree.EsStmt.{EsStmt}
 use Rattle.es5_tree.specs.declared.tree.Catch.{Catch, out-Catch}
 use Rattle.es5_tree.specs.Values.{Text, Val, Undefined, Obj, find_own}
 use Rattle.es5_tree.specs.Objects.Links.{cell_at, set_cell}
-use Rattle.es5_tree.specs.Objects.Cells.{Cell, Function}
-use Rattle.es5_evaluation.specs.State.{Code, Activation, State, record_at, set_record, with_variable}
+use Rattle.es5_tree.specs.Objects.Cells.{Cell, Function, with_property}
+use Rattle.es5_evaluation.specs.State.{Code, Activation, State, binding_by, record_at, set_record, with_variable}
 use Rattle.es5_evaluation.specs.Task.{Completion, Normal, Refers, Return, Throw, Break, Continue, Task, Leaves, Ask, ◌>>=◌, walk, has_read, printed}
 use Rattle.es5_evaluation.specs.Declared.{own_code, new_names, arguments_name}
 use Rattle.es5_evaluation.specs.Evaluate.{all, caught_by, left, invoke, invoke_kind, passed, enter, entered, run_body, activation, bound_params, undefined_variables, own_name, arguments_object, error_object, host_functions, row_task}
@@ -25,7 +25,7 @@ use Rattle.es5_rules.specs.Moments.{moments, moments_by}
 use Rattle.es5_rules.proofs.Host.{Intrinsic, row_gives, row_makes, row_reads, row_sets, row_throws, row_writes, steps_row}
 use Rattle.es5_rules.proofs.Steps.{steps_count, steps_seen}
 use Rattle.es5_executor.specs.Runs.{End, Gave, Outside, after, Leads, look, Takes, TakesSeen, DoesSeen}
-use Rattle.es5_executor.specs.Memory.{Heap, Records, Frame, Outer, IsFunction, IsHost, assign, bound_from, value_by}
+use Rattle.es5_executor.specs.Memory.{Heap, Records, Frame, Outer, IsFunction, IsHost, IsOuter, assign, bound_from, value_by}
 use Rattle.es5_executor.proofs.Runs.{silent, silently, associates}
 use Rattle.es5_executor.proofs.Memory
 use Rattle.es5_executor.proofs.Sym
@@ -291,6 +291,24 @@ assign_under R a b c x v l =
     ap (λ Z. set_record Z (length R) b) inner ∙ (ap (λ n. set_record (assign R c x v ++ a ∷ []) n b) (sym (Memory.assign_length R c x v)) ∙ seam (assign R c x v) a b)
 
 -- ---- the part of a `try` that takes what was thrown, in a record of its own
+
+-- one's own variables, seen from there
+pub own_outer : (R : Records) (r o : ℕ) (ps : Frame) (x : Text) (v : Val) → record_at R r ≡ act o ps → find_own ps x ≡ Some v → IsOuter R r (record { name = x; at = r; val = v; free = true })
+unfolding bound_from binding_by
+own_outer R r o ps x v e f = (
+  ap (λ (a : Activation). if is_some (find_own a.variables x) || is_some (find_own a.constants x) then Some r else binding_by r R a.outer x) e ∙ ap (λ (q : Option Val). if is_some q || is_some (find_own [] x) then Some r else binding_by r R (Some o) x) f,
+  ap (λ (a : Activation). find_own a.variables x) e ∙ f,
+)
+
+-- one's own record after a write to one of them from there
+pub own_assigned : (R : Records) (b : Activation) (r o : ℕ) (ps : Frame) (x : Text) (v : Val) → record_at R r ≡ act o ps → r < length R → record_at (assign R r x v ++ b ∷ []) r ≡ act o (with_property ps x v)
+unfolding assign
+own_assigned R b r o ps x v e l =
+    let n = Memory.assign_length R r x v in
+    Memory.record_old (set_record R r (with_variable (record_at R r) x v)) b r (long n) ∙ (Memory.record_set R r (with_variable (record_at R r) x v) l ∙ ap (λ (a : Activation). with_variable a x v) e)
+  where
+    long : length (set_record R r (with_variable (record_at R r) x v)) ≡ length R → r < length (set_record R r (with_variable (record_at R r) x v))
+    long m = omega (arith, m, l)
 
 pub by_caught : {seen : List State} → (part : Catch) (r : ℕ) (this v : Val) (s : State) (d : ℕ) (us : List Outer) (ks : List Fact) (hs : List ℕ) (cs : List Known) (n : ℕ) (e : End) (s' : State) →
     r < length s.records → Outers s.records r us → Facts s.heap ks →

@@ -1,6 +1,7 @@
 //! Laws, each the contract of a function that does nothing.
 
 ghost use Rattle.es5_executor.specs.Bridge.{CallAnswers, CallThrows};
+ghost use Rattle.es5_executor.specs.Catching.{CatchAnswers, CatchLands, CatchThrows};
 ghost use Rattle.es5_executor.specs.Define.{DefineWrites, Defines};
 ghost use Rattle.es5_executor.specs.Hosting.{Applies, Lists, Pushes, Writes};
 ghost use Rattle.es5_executor.specs.Linking.{CallOfNull, Links, ReadThrows};
@@ -8,6 +9,7 @@ ghost use Rattle.es5_executor.specs.Making.{Makes, Stubs};
 ghost use Rattle.es5_executor.specs.Owning.{Deletes, Owns, OwnsNot, VariableMisses, VariableReads};
 ghost use Rattle.es5_executor.specs.Runs.{Sequence};
 ghost use Rattle.es5_executor.specs.Seen.{TwoAndThree};
+ghost use Rattle.es5_executor.specs.Starting.{ObjectAtStart, TestAtStart};
 ghost use Rattle.es5_executor.specs.Trying.{Catches, Lasts};
 ghost use Rattle.es5_executor.specs.Sums.{AddLeaves, AddThrows, Adds, DivExact, DivMoved, DivPlain, MakesError};
 ghost use Rattle.es5_executor.specs.Texts.{JoinLeaves, Joins, UnitReads};
@@ -118,4 +120,17 @@ pub fn walk_runs()
 pub fn item_runs()
     ensures reads { ItemReads }
     ensures misses { ItemMisses }
+{}
+
+/// A function is called with a token: it answers, jumps to the token, or throws something else.
+pub fn catch_runs()
+    ensures answers { CatchAnswers }
+    ensures lands { CatchLands }
+    ensures throws { CatchThrows }
+{}
+
+/// What the models take of the intrinsic functions stands there before a script begins that declares no variables of their names.
+pub fn start_stands()
+    ensures test { TestAtStart }
+    ensures object { ObjectAtStart }
 {}
