@@ -1,9 +1,9 @@
 -- What an array of values, and the arguments of a call, have as own properties.
-use Rattle.std.proofs.Common.{◌≡◌, ◌≢◌, ℕ, zero, suc, ◌+◌, ◌<◌, ◌≤◌, Bool, true, false, ◌||◌, ◌&&◌, not, ◌⊎◌, List, [], ◌∷◌, ◌++◌, length, map, Option, Some, None, pos, bytes_eq, slice_get, refl, sym, ap, subst, ◌∙◌, arith, ⊎_elim}
+use Rattle.std.proofs.Common.{◌≡◌, ◌≢◌, ℕ, zero, suc, ◌+◌, ◌≤◌, true, false, List, [], ◌∷◌, length, map, Option, Some, pos, bytes_eq, slice_get, refl, sym, ap, ◌∙◌, arith, ⊎_elim}
 use Rattle.std.proofs.lemmas.Slice.Eq.{bytes_eq-Decides}
-use Rattle.es5_tree.specs.Values.{Text, Val, Num, find_own}
+use Rattle.es5_tree.specs.Values.{Text, Val, Num}
 use Rattle.es5_tree.specs.Objects.Names.{decimal, index_end, is_length, length_name, number_of}
-use Rattle.es5_tree.specs.Objects.Cells.{Cell, Kind, Array, Arguments, new_cell, is_array, own, put, with_value}
+use Rattle.es5_tree.specs.Objects.Cells.{Cell, Array, Arguments, new_cell, is_array, own, put, with_value}
 use Rattle.es5_tree.specs.Intrinsics.Made.{array_prototype, object_prototype}
 use Rattle.es5_tree.specs.Intrinsics.Rows.{array_of, filled}
 use Rattle.es5_tree.proofs.ObjectProperties.{find_other, find_written, number_decimal}

@@ -1,19 +1,18 @@
 -- The runs of the function that calls one with a token.
-use Rattle.std.proofs.Common.{◌≡◌, ℕ, suc, ◌+◌, ◌<◌, true, false, List, [], ◌∷◌, ◌++◌, length, Some, nat_eq, refl, sym, subst, arith, append-nil, eq-eqb, codes, length-append}
-use Rattle.opal_base.specs.declared.place.Pos.{Pos}
+use Rattle.std.proofs.Common.{◌≡◌, ℕ, suc, ◌+◌, ◌<◌, true, false, List, [], ◌∷◌, ◌++◌, length, refl, sym, subst, arith, append-nil, eq-eqb, codes, length-append}
 use Rattle.es5_tree.specs.Tree.{start}
-use Rattle.es5_tree.specs.Values.{Text, Val, Undefined, Null, Truth, Obj}
+use Rattle.es5_tree.specs.Values.{Val, Undefined, Null, Obj}
 use Rattle.es5_evaluation.specs.State.{State, record_at}
-use Rattle.es5_evaluation.specs.Task.{Completion, Normal, Return, Throw}
+use Rattle.es5_evaluation.specs.Task.{Completion, Normal, Throw}
 use Rattle.es5_evaluation.specs.Declared.{own_code}
 use Rattle.es5_evaluation.specs.Evaluate.{caught_by, invoke}
-use Rattle.es5_executor.specs.Runs.{End, Gave, Takes, TakesSeen}
+use Rattle.es5_executor.specs.Runs.{Gave, Takes, TakesSeen}
 use Rattle.es5_executor.specs.Memory as memory
 use Rattle.es5_executor.specs.Memory.{Frame, Records}
-use Rattle.es5_executor.specs.Catching.{taking, catching_code, token, catching_frame, at_call, Called, closed, taken, CatchAnswers, CatchLands, CatchThrows}
+use Rattle.es5_executor.specs.Catching.{taking, catching_code, token, catching_frame, Called, closed, taken, CatchAnswers, CatchLands, CatchThrows}
 use Rattle.es5_executor.proofs.Memory
-use Rattle.es5_executor.proofs.Sym.{ByRun, Own, Absent, Run, act, here}
-use Rattle.es5_executor.proofs.Calls.{assign_under, by_call, by_caught, from_here, own_assigned, own_outer, rest_of, seam}
+use Rattle.es5_executor.proofs.Sym.{ByRun, Own, Absent, act, here}
+use Rattle.es5_executor.proofs.Calls.{assign_under, by_call, by_caught, from_here, own_assigned, own_outer, rest_of}
 use Rattle.es5_executor.proofs.Bridge.{record_same}
 use Rattle.es5_executor.proofs.Codes.{code_is}
 use Rattle.es5_executor.proofs.Stepping.{stepping}

@@ -1,18 +1,17 @@
 -- The runs of functions that call the host, pass a call on, and work on lists.
-use Rattle.std.proofs.Common.{◌≡◌, ℕ, ◌+◌, ◌<◌, false, true, List, [], ◌∷◌, ◌++◌, length, map, Some, pos, refl, ap, arith, codes, length-append}
+use Rattle.std.proofs.Common.{◌≡◌, ◌+◌, ◌<◌, false, List, [], ◌∷◌, ◌++◌, length, map, Some, pos, refl, ap, arith, codes, length-append}
 use Rattle.es5_tree.specs.Tree.{start}
-use Rattle.es5_tree.specs.Values.{Text, Val, Null, Num, Str, Obj}
+use Rattle.es5_tree.specs.Values.{Null, Num, Str, Obj}
 use Rattle.es5_tree.specs.Objects.Names.{decimal}
 use Rattle.es5_tree.specs.Objects.Cells.{Host, keys}
 use Rattle.es5_tree.specs.Objects.Links.{cell_at}
 use Rattle.es5_tree.specs.Intrinsics.Rows.{array_of}
-use Rattle.es5_evaluation.specs.State.{State}
 use Rattle.es5_evaluation.specs.Task.{Normal, printed}
 use Rattle.es5_evaluation.specs.Declared.{own_code}
 use Rattle.es5_evaluation.specs.Evaluate.{invoke}
 use Rattle.es5_executor.specs.Runs.{Gave}
 use Rattle.es5_executor.specs.Memory.{Frame, Outer, Records, write}
-use Rattle.es5_executor.specs.Hosting.{write_code, Writes, in_call, two_frame, apply_code, apply_frame, list_of, Applies, push_code, Pushes, keys_code, Lists}
+use Rattle.es5_executor.specs.Hosting.{write_code, Writes, in_call, two_frame, apply_code, apply_frame, Applies, push_code, Pushes, keys_code, Lists}
 use Rattle.es5_executor.proofs.Memory
 use Rattle.es5_executor.proofs.Sym.{ByRow, ByRun, Own, Seen, IsKind, act}
 use Rattle.es5_executor.proofs.Calls.{by_call, from_here, outers_old, rest_of, seam}

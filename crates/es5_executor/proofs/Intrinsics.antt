@@ -1,19 +1,17 @@
 -- One rule for each row of the intrinsic functions that the runtime calls.
-use Rattle.std.proofs.Common.{◌≡◌, ℕ, ◌+◌, ◌-◌, ◌<◌, Bool, true, false, ◌&&◌, if◌then◌else◌, List, [], ◌∷◌, ◌++◌, length, map, drop, Option, Some, None, is_some, nat_le, nat_lt, pos, slice_index, slice_range, codes, refl, sym, ap, ◌∙◌, arith, ltb-true, le-leb}
+use Rattle.std.proofs.Common.{◌≡◌, ℕ, ◌+◌, ◌-◌, true, false, ◌&&◌, if◌then◌else◌, List, [], ◌∷◌, ◌++◌, length, map, drop, Option, Some, None, is_some, nat_le, nat_lt, pos, slice_index, slice_range, codes, refl, ap, ◌∙◌, arith, ltb-true, le-leb}
 use Rattle.opal_base.specs.declared.place.Pos.{Pos}
 use Rattle.es5_tree.specs.Values.{Text, Val, Undefined, Truth, Num, Str, Obj}
-use Rattle.es5_tree.specs.Ends as leave
-use Rattle.es5_tree.specs.Objects.Names.{decimal, index_end, index_of, is_length, length_name}
-use Rattle.es5_tree.specs.Objects.Cells.{Cell, Kind, Object, Array, Function, Host, has_length, is_array, is_array_length, keys, length_past, new_cell, own, put, with_value, with_property}
+use Rattle.es5_tree.specs.Objects.Names.{decimal, index_end, is_length, length_name}
+use Rattle.es5_tree.specs.Objects.Cells.{Object, Array, Function, has_length, is_array, keys, new_cell, own, put}
 use Rattle.es5_tree.specs.Objects.Links.{cell_at, link_at, in_chain, with_link}
 use Rattle.es5_tree.specs.Intrinsics.Calls as host
-use Rattle.es5_tree.specs.Intrinsics.Rows.{Gives, Sets, Makes, Throws, Invokes, array_of, as_length, callee_of, covered, elements, first_place, is_passed_on, length_of, link_of, link_value, linked, listed_length, natural_of, or_type_error, or_undefined, passed_on, place_value, where_true}
-use Rattle.es5_tree.specs.Intrinsics.Rows as row_kind
+use Rattle.es5_tree.specs.Intrinsics.Rows.{Gives, Sets, Makes, Invokes, array_of, covered, elements, first_place, is_passed_on, length_of, link_of, link_value, linked, listed_length, or_type_error, or_undefined, passed_on, place_value, where_true}
 use Rattle.es5_evaluation.specs.State.{State}
 use Rattle.es5_tree.specs.Intrinsics.Lines.{rest, line_of, line_value}
 use Rattle.es5_evaluation.specs.Task.{Normal, Throw, has_read, printed}
 use Rattle.es5_evaluation.specs.Evaluate.{error_object, invoke}
-use Rattle.es5_executor.specs.Runs.{End, Gave, Outside, Takes, TakesSeen}
+use Rattle.es5_executor.specs.Runs.{End, Gave, Takes, TakesSeen}
 use Rattle.es5_executor.specs.Memory.{IsHost, has, relink, write}
 use Rattle.es5_executor.proofs.Memory
 use Rattle.es5_executor.proofs.Calls.{host_gives, host_invokes, host_makes, host_reads, host_sets, host_throws, host_writes}

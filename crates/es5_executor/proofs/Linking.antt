@@ -1,9 +1,9 @@
 -- The runs of functions that give a new object its link, and that throw an error of the machine.
-use Rattle.std.proofs.Common.{◌≡◌, ℕ, zero, suc, ◌<◌, Bool, true, false, ◌||◌, ◌⊎◌, List, [], ◌∷◌, ◌++◌, length, Option, Some, None, nat_eq, pos, refl, sym, ap, subst, ◌∙◌, arith, ⊎_elim, eqb-true, codes}
+use Rattle.std.proofs.Common.{◌≡◌, ℕ, zero, suc, ◌<◌, true, false, ◌||◌, List, [], ◌∷◌, ◌++◌, length, Option, Some, None, nat_eq, refl, ap, ◌∙◌, arith, ⊎_elim, eqb-true, codes}
 use Rattle.std.specs.List.{list_any}
-use Rattle.es5_tree.specs.Values.{Val, Undefined, Null, Num, Obj}
+use Rattle.es5_tree.specs.Values.{Undefined, Null, Obj}
 use Rattle.es5_tree.specs.Objects.Cells.{Cell, Object, Host, new_cell}
-use Rattle.es5_tree.specs.Objects.Links.{cell_at, link_at, chain, first_of_chain, in_chain, Within, LinksWithin}
+use Rattle.es5_tree.specs.Objects.Links.{link_at, chain, first_of_chain, in_chain, Within, LinksWithin}
 use Rattle.es5_evaluation.specs.Task.{Normal, Throw}
 use Rattle.es5_evaluation.specs.Declared.{own_code}
 use Rattle.es5_executor.specs.Runs.{Gave}

@@ -1,8 +1,7 @@
 -- The runs of functions that ask for an own property, delete one, and find none.
-use Rattle.std.proofs.Common.{◌≡◌, ℕ, false, true, List, [], ◌∷◌, ◌++◌, length, Some, None, refl, codes}
-use Rattle.es5_tree.specs.Values.{Text, Val, Undefined, Null, Truth, Str, Obj}
+use Rattle.std.proofs.Common.{◌≡◌, ℕ, false, true, List, [], ◌∷◌, ◌++◌, None, refl, codes}
+use Rattle.es5_tree.specs.Values.{Val, Undefined, Null, Str, Obj}
 use Rattle.es5_tree.specs.Objects.Cells.{Host}
-use Rattle.es5_evaluation.specs.State.{State}
 use Rattle.es5_evaluation.specs.Task.{Normal}
 use Rattle.es5_evaluation.specs.Declared.{own_code}
 use Rattle.es5_executor.specs.Runs.{Gave}

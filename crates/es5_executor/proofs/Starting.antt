@@ -1,13 +1,13 @@
 -- What the models take stands there before a script begins.
-use Rattle.std.proofs.Common.{◌≡◌, ℕ, zero, suc, ◌<◌, Bool, true, false, ◌||◌, if◌then◌else◌, Option, Some, None, is_some, refl, ap, ◌∙◌, arith, codes}
+use Rattle.std.proofs.Common.{◌≡◌, false, ◌||◌, if◌then◌else◌, Option, Some, None, is_some, refl, ap, ◌∙◌, codes}
 use Rattle.es5_tree.specs.declared.tree.Script.{Script}
-use Rattle.es5_tree.specs.Values.{Text, Val, Obj, find_own, first}
+use Rattle.es5_tree.specs.Values.{Text, Val, Obj, find_own}
 use Rattle.es5_tree.specs.Objects.Cells.{own}
-use Rattle.es5_tree.specs.Objects.Links.{cell_at, chain, first_of_chain, first_own, get, link_at}
+use Rattle.es5_tree.specs.Objects.Links.{cell_at, chain, first_of_chain, first_own, get}
 use Rattle.es5_tree.specs.Intrinsics.Made.{cells}
-use Rattle.es5_evaluation.specs.State.{record_at, binding_by, binds}
-use Rattle.es5_evaluation.specs.Run.{first_state, script_record}
-use Rattle.es5_executor.specs.Memory.{Outer, IsOuter, bound_from}
+use Rattle.es5_evaluation.specs.State.{record_at, binding_by}
+use Rattle.es5_evaluation.specs.Run.{first_state}
+use Rattle.es5_executor.specs.Memory.{IsOuter, bound_from}
 use Rattle.es5_executor.specs.Starting.{NotDeclared, TestAtStart, ObjectAtStart}
 
 -- a global that the script doesn't declare

@@ -1,5 +1,5 @@
 -- The runs of functions on texts.
-use Rattle.std.proofs.Common.{◌≡◌, ℕ, false, true, List, [], ◌∷◌, ◌++◌, length, Some, pos, slice_index, refl, codes}
+use Rattle.std.proofs.Common.{◌≡◌, false, [], ◌∷◌, ◌++◌, pos, slice_index, refl, codes}
 use Rattle.es5_tree.specs.Tree.{start}
 use Rattle.es5_tree.specs.Values.{Num, Str, Obj}
 use Rattle.es5_tree.specs.Ends.{Number}
@@ -11,7 +11,7 @@ use Rattle.es5_executor.specs.Runs.{Gave, Outside}
 use Rattle.es5_executor.specs.Memory.{Frame}
 use Rattle.es5_executor.specs.Texts.{key_code, Joins, JoinLeaves, unit_code, UnitReads}
 use Rattle.es5_executor.proofs.Memory
-use Rattle.es5_executor.proofs.Sym.{ByRow, Own, Seen, IsKind, act}
+use Rattle.es5_executor.proofs.Sym.{ByRow, Own, IsKind, act}
 use Rattle.es5_executor.proofs.Calls.{by_call, seam}
 use Rattle.es5_executor.proofs.Codes.{code_is}
 use Rattle.es5_executor.proofs.Stepping.{stepping}

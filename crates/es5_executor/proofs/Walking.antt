@@ -1,5 +1,5 @@
 -- The runs of a walk along links, and of a look-up in a list.
-use Rattle.std.proofs.Common.{◌≡◌, ℕ, suc, ◌+◌, ◌<◌, Bool, true, false, if◌then◌else◌, nat_eq, List, [], ◌∷◌, ◌++◌, length, Some, pos, refl, sym, ap, subst, arith, codes, length-append}
+use Rattle.std.proofs.Common.{◌≡◌, ℕ, suc, ◌+◌, ◌<◌, Bool, true, false, if◌then◌else◌, nat_eq, List, [], ◌∷◌, ◌++◌, length, Some, pos, refl, sym, subst, arith, codes, length-append}
 use Rattle.es5_tree.specs.declared.tree.EsExpr.{EsExpr}
 use Rattle.es5_tree.specs.declared.tree.EsStmt.{EsStmt}
 use Rattle.es5_tree.specs.declared.tree.EsStmt.TheVariants as stmt
@@ -13,7 +13,7 @@ use Rattle.es5_evaluation.specs.Task.{Normal, Return, Evaluate, Execute}
 use Rattle.es5_evaluation.specs.Declared.{own_code}
 use Rattle.es5_executor.specs.Builders.{name, at, binary, null, truth, assign, when, return}
 use Rattle.es5_executor.specs.Runs.{End, Gave, Takes, Does}
-use Rattle.es5_executor.specs.Memory.{Heap, Frame, IsFunction, has}
+use Rattle.es5_executor.specs.Memory.{Frame, IsFunction, has}
 use Rattle.es5_executor.specs.Walking.{among_code, Roll, among, stops_at, walk_units, units_behind, among_frame, Among, item_code, item_frame, ItemReads, ItemMisses}
 use Rattle.es5_executor.proofs.Memory
 use Rattle.es5_executor.proofs.Sym.{ByRun, Own, Ev, Do, act}

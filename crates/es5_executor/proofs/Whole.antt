@@ -1,5 +1,5 @@
 -- The executor is right for each node.
-use Rattle.std.proofs.Common.{◌≡◌, ℕ, zero, suc, Bool, true, false, not, List, [], ◌∷◌, ◌++◌, map, Option, Some, None, refl, sym, ap, subst, ◌∙◌, codes}
+use Rattle.std.proofs.Common.{◌≡◌, ℕ, zero, suc, Bool, true, false, not, List, [], ◌∷◌, ◌++◌, Option, Some, None, refl, sym, ap, subst, ◌∙◌, codes}
 use Rattle.opal_base.specs.declared.place.Pos.{Pos}
 use Rattle.std.proofs.Math.Path.{fun_ext}
 use Rattle.es5_tree.specs.Ends.{OutKind}
@@ -11,7 +11,6 @@ use Rattle.es5_tree.specs.Values.{Text, Val, Undefined, Null, Truth, Num, Str, O
 use Rattle.es5_tree.specs.Objects.Cells.{Object, new_cell}
 use Rattle.es5_tree.specs.Objects.Links.{cell_at}
 use Rattle.es5_tree.specs.Intrinsics.Made.{object_prototype}
-use Rattle.es5_tree.specs.Intrinsics.Rows.{array_of}
 use Rattle.es5_evaluation.specs.State.{record_at, set_record, binding, value_in}
 use Rattle.es5_evaluation.specs.Task.{Place, Variable, Property, Completion, Normal, Refers, Return, Throw, Break, Continue, Scope, Evaluate, Refer, Execute, Task, Done, Ask, ◌>>=◌, walk}
 use Rattle.es5_evaluation.specs.Values.{truthy, key_of, type_name, kind_name, negated, binary, or_undefined, holder_of}

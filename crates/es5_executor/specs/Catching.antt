@@ -6,7 +6,7 @@ use Rattle.es5_tree.specs.declared.tree.EsKind.TheVariants as kind
 use Rattle.es5_tree.specs.declared.tree.EsStmt.TheVariants as stmt
 use Rattle.es5_tree.specs.declared.tree.Operator.TheVariants as operator
 use Rattle.es5_tree.specs.Tree.{start}
-use Rattle.es5_tree.specs.Values.{Text, Val, Undefined, Null, Truth, Obj}
+use Rattle.es5_tree.specs.Values.{Val, Undefined, Null, Truth, Obj}
 use Rattle.es5_tree.specs.Objects.Cells.{Cell}
 use Rattle.es5_tree.specs.Intrinsics.Made.{holder, object_prototype}
 use Rattle.es5_evaluation.specs.State.{Code, State, record_at}

@@ -1,9 +1,8 @@
 -- Calls of the host, calls that are passed on, and lists.
 use Rattle.std.specs.Prelude.{◌≡◌, ℕ, ◌+◌, ◌<◌, true, false, nat_le, nat_lt, List, [], ◌∷◌, ◌++◌, length, map, Some, codes, pos}
 use Rattle.opal_base.specs.declared.place.Pos.{Pos}
-use Rattle.opal_base.specs.Shown.{Wrote}
 use Rattle.es5_tree.specs.Tree.{start}
-use Rattle.es5_tree.specs.Values.{Text, Val, Undefined, Null, Num, Str, Obj}
+use Rattle.es5_tree.specs.Values.{Text, Val, Null, Num, Str, Obj}
 use Rattle.es5_tree.specs.Objects.Names.{decimal, index_end, length_name}
 use Rattle.es5_tree.specs.Objects.Cells.{Array, has_length, keys}
 use Rattle.es5_tree.specs.Objects.Links.{cell_at, get}
@@ -12,7 +11,7 @@ use Rattle.es5_evaluation.specs.State.{Code, State, record_at}
 use Rattle.es5_evaluation.specs.Task.{Normal, printed}
 use Rattle.es5_evaluation.specs.Evaluate.{invoke}
 use Rattle.es5_executor.specs.Builders.{name, null, call, at, member, expr, return, code}
-use Rattle.es5_executor.specs.Runs.{End, Gave, Takes, TakesSeen}
+use Rattle.es5_executor.specs.Runs.{Gave, Takes, TakesSeen}
 use Rattle.es5_executor.specs.Memory.{record_of, Frame, IsFunction, IsHost, IsOuter, has, write}
 
 -- function(a, b) { $host.write(a); $host.write(b); return null; }

@@ -1,9 +1,8 @@
 -- Before a script begins, the intrinsic functions stand where the models take them from.
-use Rattle.std.specs.Prelude.{◌≡◌, None, Some, false, codes}
+use Rattle.std.specs.Prelude.{◌≡◌, None, codes}
 use Rattle.es5_tree.specs.declared.tree.Script.{Script}
-use Rattle.es5_tree.specs.Values.{Text, Undefined, Obj, find_own}
+use Rattle.es5_tree.specs.Values.{Text, find_own}
 use Rattle.es5_evaluation.specs.Run.{first_state, script_record}
-use Rattle.es5_executor.specs.Memory.{IsHost, IsOuter, has}
 use Rattle.es5_executor.specs.Owning.{TestStands}
 use Rattle.es5_executor.specs.Linking.{ObjectStands}
 

@@ -7,14 +7,14 @@ use Rattle.es5_tree.specs.Values.{Text, Val, Truth, Num, Str, Obj}
 use Rattle.es5_tree.specs.Ends.{Number}
 use Rattle.es5_tree.specs.Objects.Cells.{Cell}
 use Rattle.es5_tree.specs.Intrinsics.Made.{holder, object_prototype}
-use Rattle.es5_evaluation.specs.State.{Code, Activation, State}
+use Rattle.es5_evaluation.specs.State.{Code, State}
 use Rattle.es5_evaluation.specs.Task.{Normal, Throw}
 use Rattle.es5_evaluation.specs.Values.{largest, is_zero, same}
 use Rattle.es5_evaluation.specs.Evaluate.{invoke}
 use Rattle.opal_base.specs.declared.place.Pos.{Pos}
 use Rattle.es5_executor.specs.Builders.{name, str, at, object, binary, typeof, and, call, assign, var, when, return, throw, code, num}
 use Rattle.es5_executor.specs.Runs.{Gave, Outside, Takes}
-use Rattle.es5_executor.specs.Memory.{record_of, IsFunction, IsOuter, Frame, write}
+use Rattle.es5_executor.specs.Memory.{record_of, IsFunction, IsOuter, write}
 
 abbrev pub truth_eq : Bool → Bool → Bool
 truth_eq a b = same (Truth a) (Truth b)

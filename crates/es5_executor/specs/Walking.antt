@@ -3,9 +3,8 @@ use Rattle.std.specs.Prelude.{◌≡◌, ℕ, ◌+◌, ◌<◌, Bool, true, fals
 use Rattle.opal_base.specs.declared.place.Pos.{Pos}
 use Rattle.es5_tree.specs.declared.tree.EsKind.TheVariants as kind
 use Rattle.es5_tree.specs.declared.tree.Operator.TheVariants as operator
-use Rattle.es5_tree.specs.Values.{Val, Undefined, Null, Truth, Num, Obj}
+use Rattle.es5_tree.specs.Values.{Val, Null, Truth, Num, Obj}
 use Rattle.es5_tree.specs.Objects.Names.{decimal, length_name}
-use Rattle.es5_tree.specs.Objects.Links.{get}
 use Rattle.es5_evaluation.specs.State.{Code, State}
 use Rattle.es5_evaluation.specs.Task.{Normal}
 use Rattle.es5_evaluation.specs.Evaluate.{invoke}
