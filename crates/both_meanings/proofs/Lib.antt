@@ -22,3 +22,4 @@ pub mod Blocks
 pub mod Parts
 pub mod Setting
 pub mod SmallLaws
+pub mod Locals
