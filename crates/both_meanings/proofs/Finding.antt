@@ -20,7 +20,7 @@ carries_value h _ _ is_true = refl
 carries_value h _ _ is_false = refl
 carries_value h _ _ (is_int n) = refl
 carries_value h _ _ (is_text t) = refl
-carries_value h _ _ (is_ref k o e) = h.objects.objects k o e
+carries_value h _ _ (is_ref k o n e) = h.objects.objects k o e
 
 -- the module in which an entry is found, among those of some links
 record In (R : Ruby) (m : Name) (f : ℕ → Option ℕ) (xs : List ℕ) (e : Entry) : Type 0 where

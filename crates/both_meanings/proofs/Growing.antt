@@ -31,7 +31,7 @@ module _ {w w1 : World} (g : Grows w w1) where
   value_grows _ _ is_false = is_false
   value_grows _ _ (is_int n) = is_int n
   value_grows _ _ (is_text t) = is_text t
-  value_grows _ _ (is_ref k o e) = is_ref k o (g.object k o e)
+  value_grows _ _ (is_ref k o n e) = is_ref k o n (g.object k o e)
 
   pub binds_grows : (r b : ℕ) (x : Text) → Binds w r x b → Binds w1 r x b
   binds_grows r _ x (bound_here _ _ sh e i) = bound_here r x sh (g.shape r sh e) i

@@ -23,3 +23,5 @@ pub mod Parts
 pub mod Setting
 pub mod SmallLaws
 pub mod Locals
+pub mod Testing
+pub mod LocalForms

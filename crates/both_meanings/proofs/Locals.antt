@@ -16,8 +16,10 @@ use Rattle.both_meanings.specs.Names.{is_plain, hex, spelled}
 use Rattle.both_meanings.specs.Names as names
 use Rattle.both_meanings.specs.World.{Shape, stands, bound_in, Framed, OfFrame, OfCall, Role, Token, Carrier, Listed, World, IsValue, Binds, bound_here, bound_around, Var, Behind, next, over, SeesLocal, own_local, outer_local}
 use Rattle.both_meanings.specs.Holds.{Scheme, Serves, variable_at, FrameHolds, RecordsHold, IsProc, Holds}
-use Rattle.both_meanings.proofs.Records.{true_or_false, same_or_not, wrote, length_wrote, value_wrote, value_other, value_elsewhere, in_other, shapes_wrote, var_within}
-use Rattle.both_meanings.proofs.NamesDiffer.{no_local}
+use Rattle.both_meanings.specs.Simulates.{RecordsStay, Kept, Later}
+use Rattle.both_meanings.proofs.Records.{true_or_false, same_or_not, wrote, length_wrote, value_wrote, value_other, value_elsewhere, in_other, shapes_wrote, shape_wrote, has_var, var_within}
+use Rattle.both_meanings.proofs.NamesDiffer.{no_local, local_temp}
+use Rattle.both_meanings.proofs.Growing.{grows_refl}
 use Rattle.both_meanings.proofs.Holding.{carries_same}
 use Rattle.both_meanings.proofs.Entering.{some_same}
 
@@ -325,3 +327,28 @@ module _ {T : Scheme} {w : World} {st : State} {s : es.State} (h : Holds T w st 
   -- as setting a local does
   pub holds_local : Holds T w (changed (with_local k x v) st) s1
   holds_local = subst (λ q. Holds T w (changed (set_held q k x v) st) s1) (sym (held h.records (length st.ruby.frames) k j x (h.records.frames k f e).0 sees)) holds_set
+
+  -- frames are as open as they were
+  pub later_set : Later w st.ruby w (with_local k x v st.ruby)
+  later_set = subst (λ q. Later w st.ruby w (set_held q k x v st.ruby)) (sym (held h.records (length st.ruby.frames) k j x (h.records.frames k f e).0 sees)) (record {
+    grows = grows_refl w;
+    frames = omega (arith, count);
+    calls = omega arith;
+    opened = λ i l. by_set (λ y. y.is_open ≡ (frame_at st.ruby i).is_open) i refl (λ z. z);
+    returns = λ i l. by_set (λ y. y.returns ≡ (frame_at st.ruby i).returns) i refl (λ z. z);
+    tokens = λ o t i q. q;
+  })
+
+  -- records stay, and so do temporaries
+  pub stay_set : RecordsStay s.records s1.records
+  stay_set = record {
+    more = let n = length_wrote s g.record_at (names.local x) u in omega (arith, n);
+    shape = λ q l. shape_wrote s g.record_at (names.local x) u q inside (has_var h.records.shapes g.record_at (names.local x) there.var);
+    plain = λ q y l n. value_other s g.record_at q (names.local x) u y inside (λ i. n (subst names.Generated i (names.is_local x)));
+  }
+
+  pub temp_set : (q n : ℕ) → variable_at s1.records q (names.temp n) ≡ variable_at s.records q (names.temp n)
+  temp_set q n = value_other s g.record_at q (names.local x) u (names.temp n) inside (local_temp x n)
+
+  pub kept_set : (r t : ℕ) → Kept w r t s s1
+  kept_set r t = record { temps = λ q n l c. temp_set q n; lists = λ o q n i c. refl }

@@ -8,6 +8,7 @@ use Rattle.es5_tree.specs.declared.tree.EsExpr.{EsExpr}
 use Rattle.es5_tree.specs.declared.tree.EsKind.TheVariants as kind
 use Rattle.es5_tree.specs.declared.tree.EsStmt.{EsStmt}
 use Rattle.es5_tree.specs.declared.tree.EsStmt.TheVariants as stmt
+use Rattle.es5_tree.specs.declared.tree.Operator.TheVariants as operator
 use Rattle.es5_tree.specs.Values.{Text, Val, Truth, Obj}
 use Rattle.es5_tree.specs.Objects.Cells.{put}
 use Rattle.es5_tree.specs.Objects.Cells as cell
@@ -39,6 +40,32 @@ pub record Sets (ts : EsStmt) (t : ℕ) (a : EsExpr) : Type 0 where
   pub is : ts ≡ stmt.Expr whole
   pub assigns : whole.kind ≡ kind.Assign target a
   pub named : target.kind ≡ kind.Name (temp t)
+
+-- `l$x = t;`
+pub record SetsLocal (ts : EsStmt) (x : Name) (t : ℕ) : Type 0 where
+  pub whole : EsExpr
+  pub target : EsExpr
+  pub from : EsExpr
+  pub is : ts ≡ stmt.Expr whole
+  pub assigns : whole.kind ≡ kind.Assign target from
+  pub named : target.kind ≡ kind.Name (local x)
+  pub from_is : from.kind ≡ kind.Name (temp t)
+
+-- `t === false || t === $$nil`
+pub record TestsFalse (e : EsExpr) (t : ℕ) (nil : Text) : Type 0 where
+  pub a : EsExpr
+  pub b : EsExpr
+  pub is : e.kind ≡ kind.Or a b
+  pub x : EsExpr
+  pub y : EsExpr
+  pub first : a.kind ≡ kind.Binary operator.Same x y
+  pub x_is : x.kind ≡ kind.Name (temp t)
+  pub y_is : y.kind ≡ kind.False
+  pub v : EsExpr
+  pub z : EsExpr
+  pub second : b.kind ≡ kind.Binary operator.Same v z
+  pub v_is : v.kind ≡ kind.Name (temp t)
+  pub z_is : z.kind ≡ kind.Name nil
 
 -- ---- functions
 

@@ -72,14 +72,14 @@ pub record Grows (w w1 : World) : Type 0 where
 
 -- ---- values
 
--- a value of the script is a value of Ruby
+-- A value of the script is a value of Ruby; the heap value with number 0 is nil's.
 pub data IsValue (w : World) : Value → Val → Type 0 where
   is_nil : (o : ℕ) → w.object 0 ≡ Some o → IsValue w value.Nil (Obj o)
   is_true : IsValue w value.True (Truth true)
   is_false : IsValue w value.False (Truth false)
   is_int : (n : ℤ) → IsValue w (value.Int n) (Num n)
   is_text : (t : Text) → IsValue w (value.Text t) (Str t)
-  is_ref : (k o : ℕ) → w.object k ≡ Some o → IsValue w (value.Ref k) (Obj o)
+  is_ref : (k o : ℕ) → (k ≡ 0 → ⊥) → w.object k ≡ Some o → IsValue w (value.Ref k) (Obj o)
 
 -- ---- names seen from a record
 
