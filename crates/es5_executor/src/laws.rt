@@ -1,5 +1,6 @@
 //! Laws, each the contract of a function that does nothing.
 
+ghost use Rattle.es5_executor.specs.Floors.{FloorFacts};
 ghost use Rattle.es5_executor.specs.Bridge.{CallAnswers, CallThrows};
 ghost use Rattle.es5_executor.specs.Catching.{CatchAnswers, CatchLands, CatchThrows};
 ghost use Rattle.es5_executor.specs.Define.{DefineWrites, Defines};
@@ -133,4 +134,9 @@ pub fn catch_runs()
 pub fn start_stands()
     ensures test { TestAtStart }
     ensures object { ObjectAtStart }
+{}
+
+/// Floor division of two numbers within the range stays within it at each step.
+pub fn floor_facts()
+    ensures { FloorFacts }
 {}
