@@ -18,8 +18,8 @@ abbrev pub says_at : Name → (Pos → Bool) → Declared → Bool
 says_at x at ds = list_any (λ d. if bytes_eq x d.0 then at d.1 else false) ds
 
 -- both have the same names at the same places, apart from the empty name
-abbrev pub Alike : Declared → Declared → Type 0
-Alike a b = (u : ℕ) (us : Name) (at : Pos → Bool) → says_at (u ∷ us) at a ≡ says_at (u ∷ us) at b
+pub record Alike (a b : Declared) : Type 0 where
+  pub same : (u : ℕ) (us : Name) (at : Pos → Bool) → says_at (u ∷ us) at a ≡ says_at (u ∷ us) at b
 
 abbrev pub taken : Events → Declared
 taken end = []
@@ -236,8 +236,8 @@ module _ (outer : List (List Name)) (own : List Name) (around : List Declared) (
       → (u : ℕ) (us : Name) (at : Pos → Bool) → says_at (u ∷ us) at (own_in (frame ∷ around) start ps ds) ≡ kept (outside inner_outer (u ∷ us)) (u ∷ us) at i
   own_says start ps ds i a p d u us at =
       list_any-append _ ps _
-      ∙ ap (λ b. b || says_at (u ∷ us) at (filter (λ d. not (visible (frame ∷ around) start d.0)) ds)) (p u us at)
-      ∙ ap (λ b. says_at (u ∷ us) at (taken i) || b) (filtered (visible (frame ∷ around) start) (u ∷ us) at ds ∙ rw (a u us, d u us at) refl)
+      ∙ ap (λ b. b || says_at (u ∷ us) at (filter (λ d. not (visible (frame ∷ around) start d.0)) ds)) (p.same u us at)
+      ∙ ap (λ b. says_at (u ∷ us) at (taken i) || b) (filtered (visible (frame ∷ around) start) (u ∷ us) at ds ∙ rw (a u us, d.same u us at) refl)
 
   taken_known : (n : Name) (p : Pos) (r : Events) (q : Pos) → stands_before p q ≡ true → Known outer own frame (takes n p r) q → Known outer (with_name own n) frame r q
   taken_known n p r q e h u us =
@@ -259,7 +259,7 @@ module _ (outer : List (List Name)) (own : List Name) (around : List Declared) (
 
 -- the list of a body that sees no scope around it
 pub body_says : (ds : Declared) (i : Events) → Alike ds (taken i ++ settings i) → (u : ℕ) (us : Name) (at : Pos → Bool) → says_at (u ∷ us) at ds ≡ kept false (u ∷ us) at i
-body_says ds i a u us at = a u us at ∙ list_any-append _ (taken i) (settings i)
+body_says ds i a u us at = a.same u us at ∙ list_any-append _ (taken i) (settings i)
 
 pub whole_body : (ds : Declared) (i : Events) → Alike ds (taken i ++ settings i) → SameNames ds (noted [] [] i)
 unfolding has
