@@ -1,3 +1,5 @@
 mod Lists
 mod Meeting
 mod Telling
+mod Steps
+mod Walking

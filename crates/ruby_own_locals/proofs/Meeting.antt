@@ -48,10 +48,10 @@ Sound (apart ds i r) = Alike ds (taken i ++ settings i) × Sound i × Sound r
 
 -- ---- names
 
-same_names : (x y : Name) → bytes_eq x y ≡ true → x ≡ y
+pub same_names : (x y : Name) → bytes_eq x y ≡ true → x ≡ y
 same_names x y e = (bytes_eq-Decides x y).0 e
 
-same_self : (x : Name) → bytes_eq x x ≡ true
+pub same_self : (x : Name) → bytes_eq x x ≡ true
 same_self x = (bytes_eq-Decides x x).1 refl
 
 by_names : (x y : Name) (b c : Bool) → bytes_eq x y ≡ b → bytes_eq y x ≡ c → b ≡ c
@@ -63,7 +63,7 @@ by_names x y false true e f = sym e ∙ subst (λ z. bytes_eq z y ≡ true) (sam
 same_sym : (x y : Name) → bytes_eq x y ≡ bytes_eq y x
 same_sym x y = by_names x y (bytes_eq x y) (bytes_eq y x) refl refl
 
-has_with : (own : List Name) (n x : Name) → has (with_name own n) x ≡ (has own x || bytes_eq x n)
+pub has_with : (own : List Name) (n x : Name) → has (with_name own n) x ≡ (has own x || bytes_eq x n)
 unfolding has with_name
 has_with own n x = by (has own n) refl where
   by : (b : Bool) → list_any (λ m. bytes_eq m n) own ≡ b → list_any (λ m. bytes_eq m x) (cond b own (own ++ n ∷ [])) ≡ (list_any (λ m. bytes_eq m x) own || bytes_eq x n)
