@@ -85,7 +85,7 @@ never = record { by = λ w. absurd (false≢true w) }
 some_none : {A B : Type 0} (a : A) → Some a ≡ None → B
 some_none a e = let f = e in absurd cc
 
-not_earlier : {B : Type 0} (o : Option Refusal) (p : Pos) (c : Construct) → earlier o p c ≡ None → B
+pub not_earlier : {B : Type 0} (o : Option Refusal) (p : Pos) (c : Construct) → earlier o p c ≡ None → B
 not_earlier {B} None p c e = some_none _ e
 not_earlier {B} (Some r) p c e = by (stands_before p r.pos) e where
   by : (b : Bool) → cond b (Some (record { pos = p; construct = c })) (Some r) ≡ None → B

@@ -9,6 +9,8 @@ use Rattle.opal_base.specs.declared.place.Pos.{Pos}
 use Rattle.opal_base.specs.declared.place.Span.{Span}
 use Rattle.ruby_meaning.specs.declared.construct.Construct.TheVariants as construct
 use Rattle.ruby_meaning.specs.declared.scope.Around.{Around}
+use Rattle.ruby_meaning.specs.declared.construct.Construct.{Construct}
+use Rattle.ruby_meaning.specs.declared.scope.Role.{Role}
 use Rattle.ruby_meaning.specs.declared.scope.Role.TheVariants as role
 use Rattle.ruby_meaning.specs.declared.scope.Seen.{Seen}
 use Rattle.ruby_meaning.specs.declared.tree.Base.TheBlock
@@ -30,7 +32,7 @@ use Rattle.ruby_meaning.specs.Scoping.Names.{Name, has, with_name}
 use Rattle.ruby_meaning.specs.Scoping.Seen.{stands_before, outside, refuse_if, unbuilt_at, is_local, name_local, parameter, called, opened, block_closed, body_closed}
 use Rattle.ruby_meaning.specs.Scoping.Walk.{Walked, walked, Walk, Part, FormPart, BasePart, plain, as_role, is_shown, is_target, is_condition, within_def, within_block, within_lambda, within_loop, within_rescue, no_targets, all, if_any, all_if_any, in_turn, names_in_turn, defaults_in_turn, guarded, guarded_two, branches, operator_name, setter, called_if_any, refuse_marked, is_require, is_relative, text_or_empty, only_text, requires_file, noted, noted_require, noted_call, only_name, resolved_call, call, bare_local, local_or, one_slot, slots, rest_name, block_name, rescued, of_base, of_kind, of_form, of_node, of_params, part, form_part, base_part, module_part, params_part}
 use Rattle.ruby_meaning.specs.Scoping.Walk as walk
-use Rattle.ruby_evaluation.specs.Locals.{behind_all}
+use Rattle.ruby_evaluation.specs.Locals.{Declared, behind_all}
 use Rattle.ruby_evaluation.specs.Calls as calls
 use Rattle.ruby_own_locals.specs.Events.{Events, end, odd, takes, sets, opens, apart, chain, Read, only, Reading, all_of, all_targets, same_name, joined, names_at, slot_at, slots_at, rest_at, name_at, defaults_at, set_at, is_alone, read}
 use Rattle.ruby_own_locals.specs.Events as events
@@ -38,7 +40,7 @@ use Rattle.ruby_own_locals.specs.Law.{is_whole}
 use Rattle.ruby_own_locals.proofs.Lists.{left_true, right_true, whole_chain, set_name, owns_in, erase}
 use Rattle.ruby_own_locals.proofs.Lists as lists
 use Rattle.ruby_own_locals.proofs.Meeting.{has_with, same_self}
-use Rattle.ruby_own_locals.proofs.Steps.{owns, Stepped, Steps, Quiet, steps_then, quiet_then, quiet_self, quiet_quiet, stays, quiet_steps, never, refused, of_unbuilt, of_called, of_called_if_any, of_marked, local_quiet, names_one, takes_one, block_steps, body_steps}
+use Rattle.ruby_own_locals.proofs.Steps.{not_earlier, owns, Stepped, Steps, Quiet, steps_then, quiet_then, quiet_self, quiet_quiet, stays, quiet_steps, never, refused, of_unbuilt, of_called, of_called_if_any, of_marked, local_quiet, names_one, takes_one, block_steps, body_steps}
 
 -- ---- a node that is walked
 
@@ -331,3 +333,375 @@ module _ (d : ℕ) where
         subst (λ z. Steps s u z b.events) (sym (made_joined ma mb x.made ∙ ap (λ z. chain z mb.events) r.3))
         (quiet_then r.1 (subst (Steps r.0 u mb.events) (sym v.2)
         (again r.0 u n.0 v.0 v.1 mb.events (subst (λ z. Steps z u mb.events (sets n.0 v.0 v.1)) r.2 (subst (Steps t u mb.events) v.2 y.names)))))
+
+-- ---- calls
+
+noted_quiet : (receiver : Option Part) (name : Name) (args : List Part) (o : Option Part) (marked : Option Pos) (mark : Pos) (r : Role) (s : Seen) → Quiet s (noted None receiver name args o marked mark r s)
+unfolding noted noted_require noted_call
+noted_quiet receiver name args o marked mark r s = by (is_none receiver && is_require name) where
+  by : (b : Bool) → Quiet s (cond b (noted_require None name args o marked mark s) (noted_call (is_none receiver) name args o marked mark r s))
+  by true = quiet_quiet (refused _ mark _ s) (of_marked _ marked _)
+  by false = quiet_quiet (of_called _ s) (quiet_quiet (refused _ mark _ _) (quiet_quiet (refused _ mark _ _) (of_marked _ marked _)))
+
+not_refused : (b : Bool) (p : Pos) (c : Construct) (s : Seen) → (refuse_if b p c s).refusal ≡ None → b ≡ false
+unfolding refuse_if
+not_refused false p c s e = refl
+not_refused true p c s e = not_earlier s.refusal p c e
+
+steps_made : {s t : Seen} {ms es : Events} → Steps s t ms es → (is_whole es ≡ true → t.refusal ≡ None → es ≡ end) → Steps s t end es
+steps_made x h = record { by = λ w. let y = x.by w in record { own = y.own; outer = y.outer; scopes = y.scopes; keeps = y.keeps; same = λ e. sym (ap erase (h w e)) } }
+
+not_false : (b : Bool) → not b ≡ false → b ≡ true
+not_false true e = refl
+not_false false e = sym e
+
+both_two : (a b : Bool) → (a && b) ≡ true → (a ≡ true) × (b ≡ true)
+both_two true b e = (refl, e)
+both_two false b e = absurd (false≢true e)
+
+module _ (d : ℕ) (receiver o : MayKid) (name : Name) (args : Kids) (marked : Option Pos) (mark : Pos) (c : Around) (s : Seen) where
+  abbrev before : Seen
+  before = noted None (part_if receiver) name (parts_of args) (part_if o) marked mark c.role s
+
+  abbrev receiver_walk : Walked (Option Node)
+  receiver_walk = if_any (part_if receiver) (plain c) before
+
+  abbrev args_walk : Walked (List Node)
+  args_walk = all (parts_of args) (as_role (cond (walk.is_shown_text (part_if receiver) name (parts_of args) (part_if o)) role.Shown role.Plain) c) receiver_walk.seen
+
+  abbrev block_walk : Walked (Option Node)
+  block_walk = if_any (part_if o) (plain c) args_walk.seen
+
+  abbrev call_says : Events
+  call_says = chain (chain (events.if_any (read odd d) (node_if receiver)) (all_of (read odd d) (nodes_of args))) (events.if_any (read odd d) (node_if o))
+
+  abbrev call_made : Events
+  call_made = chain (chain (events.if_any (read end d) receiver_walk.made) (all_of (read end d) args_walk.made)) (events.if_any (read end d) block_walk.made)
+
+  parts_steps : Steps before block_walk.seen call_made call_says
+  parts_steps = steps_then (steps_then (if_steps d receiver (plain c) before) (all_steps d args _ receiver_walk.seen)) (if_steps d o (plain c) args_walk.seen)
+
+  call_steps : Steps s block_walk.seen call_made call_says
+  call_steps = quiet_then (noted_quiet (part_if receiver) name (parts_of args) (part_if o) marked mark c.role s) parts_steps
+
+-- a `require` has one text alone
+text_says : (d : ℕ) (p : Kid) (t : Option Name) → (part None p.0).text ≡ t → is_some t ≡ true → is_whole (read odd d p.0).events ≡ true → (read odd d p.0).events ≡ end
+text_says d p t e h w = p.1.quoted (ap is_some e ∙ h) d w
+
+require_says : (d : ℕ) (o : MayKid) (name : Name) (args : Kids) → requires_file None name (only_text (parts_of args)) (is_none (part_if o)) ≡ true
+    → is_whole (chain (chain end (all_of (read odd d) (nodes_of args))) (events.if_any (read odd d) (node_if o))) ≡ true
+    → chain (chain end (all_of (read odd d) (nodes_of args))) (events.if_any (read odd d) (node_if o)) ≡ end
+require_says d o name [] r w = absurd (false≢true r)
+require_says d o name (p ∷ (q ∷ qs)) r w = absurd (false≢true r)
+require_says d None name (p ∷ []) r w = by (part None p.0).text refl r where
+  e : Events
+  e = (read odd d p.0).events
+  by : (t : Option Name) → (part None p.0).text ≡ t → requires_file None name t true ≡ true → chain (chain (read odd d p.0).events end) end ≡ end
+  by None f r = absurd (false≢true r)
+  by (Some t) f r = ap (λ z. chain (chain z end) end) (text_says d p (Some t) f refl
+      (left_true _ true (sym (whole_chain (read odd d p.0).events end) ∙ left_true _ true (sym (whole_chain (chain (read odd d p.0).events end) end) ∙ w))))
+require_says d (Some b) name (p ∷ []) r w = by (part None p.0).text r where
+  by : {A : Type 0} (t : Option Name) → requires_file None name t false ≡ true → A
+  by None r = absurd (false≢true r)
+  by (Some t) r = absurd (false≢true r)
+
+require_made : (d : ℕ) (o : MayKid) (name : Name) (args : Kids) (marked : Option Pos) (mark : Pos) (c : Around) (s : Seen) → is_require name ≡ true
+    → is_whole (call_says d None o name args marked mark c s) ≡ true → (block_walk d None o name args marked mark c s).seen.refusal ≡ None → call_says d None o name args marked mark c s ≡ end
+unfolding noted noted_require
+require_made d o name args marked mark c s r w e =
+    let x = ((parts_steps d None o name args marked mark c s).by w).keeps e in
+    let y = subst (λ b. (cond b (noted_require None name (parts_of args) (part_if o) marked mark s) (noted_call true name (parts_of args) (part_if o) marked mark c.role s)).refusal ≡ None) r x in
+    let z = not_refused _ mark _ s ((of_marked (is_local s name) marked _).keeps y) in
+    require_says d o name args (not_false _ z) w
+
+same_alone : (receiver o : MayKid) (args : Kids) (c e : Around) (s t u : Seen) → is_alone (if_any (part_if receiver) c s).made (all (parts_of args) e t).made (if_any (part_if o) c u).made ≡ is_alone (node_if receiver) (nodes_of args) (node_if o)
+same_alone None None [] c e s t u = refl
+same_alone None (Some o) [] c e s t u = refl
+same_alone None None (a ∷ more) c e s t u = refl
+same_alone None (Some o) (a ∷ more) c e s t u = refl
+same_alone (Some r) None [] c e s t u = refl
+same_alone (Some r) (Some o) [] c e s t u = refl
+same_alone (Some r) None (a ∷ more) c e s t u = refl
+same_alone (Some r) (Some o) (a ∷ more) c e s t u = refl
+
+unless_odd : {s t : Seen} {ms es : Events} (b : Bool) → Steps s t ms es → Steps s t (cond b odd ms) (cond b odd es)
+unless_odd true x = never
+unless_odd false x = x
+
+call_required : (d : ℕ) (receiver o : MayKid) (name : Name) (args : Kids) (marked : Option Pos) (mark : Pos) (c : Around) (s : Seen) → (is_none (part_if receiver) && is_require name) ≡ true
+    → is_whole (call_says d receiver o name args marked mark c s) ≡ true → (block_walk d receiver o name args marked mark c s).seen.refusal ≡ None → call_says d receiver o name args marked mark c s ≡ end
+call_required d None o name args marked mark c s r w e = require_made d o name args marked mark c s r w e
+call_required d (Some k) o name args marked mark c s r w e = absurd (false≢true r)
+
+-- what is made of a layer
+made_as : {s t : Seen} {e : Read} (l : Layer) (k : Kind) → roll-Kind l ≡ k → (d : ℕ) (start mark : Pos) → Meets s t (events.of_kind end (read end d) l start mark) e → Meets s t (events.of_kind end (read end d) (out-Kind k) start mark) e
+made_as {s} {t} {e} l k r d start mark x = subst (λ z. Meets s t (events.of_kind end (read end d) z start mark) e) (sym (ap out-Kind (sym r) ∙ out-roll-Kind l)) x
+
+odd_or_end : {s t : Seen} {ms es : Events} (b : Bool) → Steps s t ms es → (is_whole es ≡ true → t.refusal ≡ None → es ≡ end) → Steps s t end (cond b odd es)
+odd_or_end true x h = never
+odd_or_end false x h = steps_made x h
+
+call_walks : (d : ℕ) (receiver o : MayKid) (name : Name) (args : Kids) (marked : Option Pos) (start mark : Pos) (c : Around) (s : Seen)
+    → let w = call None (part_if receiver) name (parts_of args) (part_if o) marked mark c s in
+    Meets s w.seen (events.of_kind end (read end d) (out-Kind w.made) start mark) (events.of_kind odd (read odd d) (Kind-F.Call (node_if receiver) name (nodes_of args) (node_if o) marked) start mark)
+unfolding call resolved_call
+call_walks d receiver o name args marked start mark c s = by (is_none (part_if receiver) && is_require name) refl where
+  by : (b : Bool) → (is_none (part_if receiver) && is_require name) ≡ b
+      → Meets s (block_walk d receiver o name args marked mark c s).seen
+      (events.of_kind end (read end d) (out-Kind (resolved_call b name (only_text (parts_of args)) marked (receiver_walk d receiver o name args marked mark c s).made (args_walk d receiver o name args marked mark c s).made (block_walk d receiver o name args marked mark c s).made)) start mark)
+      (events.of_kind odd (read odd d) (Kind-F.Call (node_if receiver) name (nodes_of args) (node_if o) marked) start mark)
+  by true e = made_as _ _ (kinds.rolls-Require _ _) d start mark (record {
+    names = steps_made (call_steps d receiver o name args marked mark c s) (call_required d receiver o name args marked mark c s e);
+    targets = odd_or_end (is_alone (node_if receiver) (nodes_of args) (node_if o)) (call_steps d receiver o name args marked mark c s) (call_required d receiver o name args marked mark c s e);
+    reads = λ x e. no_name x e;
+    sets = λ x e. no_name x e;
+    made = λ x e. no_name x e;
+  })
+  by false e = made_as _ _ (kinds.rolls-Call (receiver_walk d receiver o name args marked mark c s).made name (args_walk d receiver o name args marked mark c s).made (block_walk d receiver o name args marked mark c s).made marked) d start mark (record {
+    names = call_steps d receiver o name args marked mark c s;
+    targets = subst (λ z. Steps s (block_walk d receiver o name args marked mark c s).seen (cond z odd (call_made d receiver o name args marked mark c s)) (cond (is_alone (node_if receiver) (nodes_of args) (node_if o)) odd (call_says d receiver o name args marked mark c s)))
+        (sym (same_alone receiver o args (plain c) (as_role (cond (walk.is_shown_text (part_if receiver) name (parts_of args) (part_if o)) role.Shown role.Plain) c) (before d receiver o name args marked mark c s) (receiver_walk d receiver o name args marked mark c s).seen (args_walk d receiver o name args marked mark c s).seen)) (unless_odd (is_alone (node_if receiver) (nodes_of args) (node_if o)) (call_steps d receiver o name args marked mark c s));
+    reads = λ x e. no_name x e;
+    sets = λ x e. no_name x e;
+    made = λ x e. no_name x e;
+  })
+
+-- ---- each form
+
+abbrev KidLayer : Type 0
+KidLayer = Kind-F ((b : Base) × BaseMeets b) ((k : Kind) × KindMeets k) ((f : ModuleForm) × ModuleMeets f) Kid ((p : Params) × ParamsMeet p)
+
+abbrev whole_of : KidLayer → Layer
+whole_of = map-Kind ((b : Base) × BaseMeets b) ((k : Kind) × KindMeets k) ((f : ModuleForm) × ModuleMeets f) Kid ((p : Params) × ParamsMeet p) Base Kind ModuleForm Node Params (λ e. e.0) (λ e. e.0) (λ e. e.0) (λ e. e.0) (λ e. e.0)
+
+abbrev folded : KidLayer → FormPart
+folded l = of_kind None (map-Kind Base Kind ModuleForm Node Params BasePart FormPart (Walk ModuleForm) Part (Pos → Walk Params) (base_part None) (form_part None) (module_part None) (part None) (params_part None) (whole_of l))
+
+form_meets : (f : FormPart) (l : Layer) → f.name ≡ None → f.text ≡ None
+    → ((d : ℕ) (start mark : Pos) (c : Around) (s : Seen) → Meets s (f.walk mark c s).seen (events.of_kind end (read end d) (out-Kind (f.walk mark c s).made) start mark) (events.of_kind odd (read odd d) l start mark))
+    → FormMeets f l
+form_meets f l e t w = record {
+  walks = w;
+  alone = λ x h. no_name x (sym e ∙ h);
+  quoted = λ h. absurd (false≢true (sym (ap is_some t) ∙ h));
+}
+
+abbrev ParamsKid : Type 0
+ParamsKid = (p : Params) × ParamsMeet p
+
+abbrev inside : {A : Type 0} → (Params → Node → A) → Params → Node → Pos → Around → Seen → Walked A
+inside h params n mark c = walk.two h (params_part None params mark c) ((part None n).walk c)
+
+inside_steps : (d : ℕ) (params : ParamsKid) (n : Kid) (start mark : Pos) (c : Around) (s : Seen) → let p = params_part None params.0 mark c s in
+    Steps s ((part None n.0).walk c p.seen).seen (chain (events.of_params (read end d) start (out-Params p.made)) (read end d ((part None n.0).walk c p.seen).made).events)
+    (chain (events.of_params (read odd d) start (out-Params params.0)) (read odd d n.0).events)
+inside_steps d params n start mark c s = steps_then (params.1 d start mark c s) (one d n c _)
+
+block_walks : (d : ℕ) (params : ParamsKid) (n : Kid) (h : Params → Node → Kind) (start mark : Pos) (c : Around) (s : Seen) →
+    let s' = opened (s.outer ++ s.own ∷ []) s in
+    let p = params_part None params.0 mark c s' in
+    Steps s (walk.in_block (inside h params.0 n.0 mark c) s).seen (events.in_block (read end d) start p.made ((part None n.0).walk c p.seen).made) (events.in_block (read odd d) start params.0 n.0)
+block_walks d params n h start mark c s = block_steps s _ start _ _ _ _ _ _ (inside_steps d params n start mark c (opened (s.outer ++ s.own ∷ []) s))
+
+abbrev both_parts : Params → Node → Params × Node
+both_parts p b = (p, b)
+
+method_walks : (d : ℕ) (params : ParamsKid) (n : Kid) (mark : Pos) (s : Seen) →
+    let w = walk.in_body (inside both_parts params.0 n.0 mark within_def) s in
+    Steps s w.seen (events.in_method (read end d) w.made.0 w.made.1) (events.in_method (read odd d) params.0 n.0)
+method_walks d params n mark s = body_steps s _ _ _ _ _ (inside_steps d params n calls.start mark within_def (opened [] s))
+
+body_walks : (d : ℕ) (n : Kid) (s : Seen) (ds ds' : Declared) →
+    let w = walk.in_body ((part None n.0).walk no_targets) s in
+    Steps s w.seen (apart ds (read end d w.made).events end) (apart ds' (read odd d n.0).events end)
+body_walks d n s ds ds' = body_steps s _ ds ds' _ _ (one d n no_targets (opened [] s))
+
+all_if_steps : (d : ℕ) (o : Option Kids) (c : Around) (s : Seen) → let w = all_if_any (option_map (map (part None)) (option_map nodes_of o)) c s in
+    Steps s w.seen (events.all_if_any (read end d) w.made) (events.all_if_any (read odd d) (option_map nodes_of o))
+all_if_steps d None c s = stays s
+all_if_steps d (Some ps) c s = all_steps d ps c s
+
+rescued_steps : (p : Pos) (o : Option Name) (s : Seen) → Steps s (rescued o s) (set_at p o) (set_at p o)
+unfolding rescued
+rescued_steps p None s = stays s
+rescued_steps p (Some n) s = names_one n p s
+
+some_name : Name → Option Name → Name
+some_name n None = n
+some_name n (Some x) = x
+
+same_some : (n x : Name) → Some n ≡ Some x → n ≡ x
+unfolding some_name
+same_some n x e = ap (some_name n) e
+
+local_get : (name : Name) (d : ℕ) (start mark : Pos) (s : Seen) → Meets s (name_local name s) (events.of_kind end (read end d) (Kind-F.LocalGet name) start mark) (events.of_kind odd (read odd d) (Kind-F.LocalGet name) start mark)
+local_get name d start mark s = record {
+  names = never;
+  targets = names_one name mark s;
+  reads = λ x e. (s, quiet_self s, ap (λ z. name_local z s) (same_some name x e), refl);
+  sets = λ x e. no_name x e;
+  made = λ x e. refl;
+}
+
+local_set : (name : Name) (v : Kid) (d : ℕ) (start mark : Pos) (c : Around) (s : Seen) → let w = (part None v.0).walk c (name_local name s) in
+    Meets s w.seen (events.of_kind end (read end d) (Kind-F.LocalSet name w.made) start mark) (events.of_kind odd (read odd d) (Kind-F.LocalSet name v.0) start mark)
+local_set name v d start mark c s = record {
+  names = steps_then (names_one name mark s) (one d v c (name_local name s));
+  targets = steps_then (names_one name mark s) (one d v c (name_local name s));
+  reads = λ x e. no_name x e;
+  sets = λ x e. (mark, (read odd d v.0).events, ap (λ z. sets z mark (read odd d v.0).events) (same_some name x e));
+  made = λ x e. no_name x e;
+}
+
+splat : (v : Kid) (d : ℕ) (start mark : Pos) (c : Around) (s : Seen) → let w = (part None v.0).walk c s in
+    Meets s w.seen (events.of_kind end (read end d) (Kind-F.Splat w.made) start mark) (events.of_kind odd (read odd d) (Kind-F.Splat v.0) start mark)
+splat v d start mark c s = record {
+  names = one d v c s;
+  targets = (v.1.walks d c s).targets;
+  reads = λ x e. no_name x e;
+  sets = λ x e. no_name x e;
+  made = λ x e. no_name x e;
+}
+
+joined_walks : (d : ℕ) (a b : Kid) (c e : Around) (s : Seen) → let w = (part None a.0).walk c s in let v = (part None b.0).walk e w.seen in
+    Steps s v.seen (joined (read end d w.made) (read end d v.made)) (joined (read odd d a.0) (read odd d b.0))
+joined_walks d a b c e s = joined_steps d s _ _ _ _ _ _ (a.1.walks d c s) (b.1.walks d e _)
+
+call_meets : (receiver o : MayKid) (name : Name) (args : Kids) (marked : Option Pos) → FormMeets (record {
+  name = only_name (part_if receiver) name (parts_of args) (part_if o);
+  text = None;
+  is_block = false;
+  built = λ r. walk.is_shown_text (part_if receiver) name (parts_of args) (part_if o);
+  walk = call None (part_if receiver) name (parts_of args) (part_if o) marked;
+}) (Kind-F.Call (node_if receiver) name (nodes_of args) (node_if o) marked)
+call_meets receiver o name args marked = record {
+  walks = λ d start mark c s. call_walks d receiver o name args marked start mark c s;
+  alone = alone receiver o args;
+  quoted = λ h. absurd (false≢true h);
+} where
+  alone : (receiver o : MayKid) (args : Kids) (x : Name) → only_name (part_if receiver) name (parts_of args) (part_if o) ≡ Some x → (d : ℕ) (start mark : Pos)
+      → events.of_kind odd (read odd d) (Kind-F.Call (node_if receiver) name (nodes_of args) (node_if o) marked) start mark ≡ name_alone
+  alone None None [] x e d start mark = refl
+  alone None (Some b) [] x e d start mark = no_name x e
+  alone None None (a ∷ more) x e d start mark = no_name x e
+  alone None (Some b) (a ∷ more) x e d start mark = no_name x e
+  alone (Some r) o args x e d start mark = no_name x e
+
+str_meets : (units : Name) → FormMeets (record { name = None; text = Some units; is_block = false; built = is_shown; walk = λ mark c s. walked s (kinds.Str units) }) (Kind-F.Str units)
+str_meets units = record {
+  walks = λ d start mark c s. made_as _ _ (kinds.rolls-Str units) d start mark (met (stays s));
+  alone = λ x h. no_name x h;
+  quoted = λ h d start mark. refl;
+}
+
+-- the forms with parts that may be missing
+super_walks : (d : ℕ) (args : Option Kids) (o : MayKid) (start mark : Pos) (c : Around) (s : Seen) →
+    let w = walk.super (option_map (map (part None)) (option_map nodes_of args)) (part_if o) mark c s in
+    Meets s w.seen (events.of_kind end (read end d) (out-Kind w.made) start mark) (events.of_kind odd (read odd d) (Kind-F.Super (option_map nodes_of args) (node_if o)) start mark)
+super_walks d args o start mark c s =
+    let t = refuse_if (not c.in_def) mark construct.JumpOutside s in
+    let a = all_if_any (option_map (map (part None)) (option_map nodes_of args)) (plain c) t in
+    let b = if_any (part_if o) (plain c) a.seen in
+    made_as _ _ (kinds.rolls-Super a.made b.made) d start mark (met (quiet_then (refused (not c.in_def) mark construct.JumpOutside s) (steps_then (all_if_steps d args (plain c) t) (if_steps d o (plain c) a.seen))))
+
+case_walks : (d : ℕ) (o : MayKid) (whens : Kids) (otherwise : Kid) (e : Around) (start mark : Pos) (c : Around) (s : Seen) →
+    let a = if_any (part_if o) (plain c) s in
+    let b = all (parts_of whens) e a.seen in
+    let g = (part None otherwise.0).walk (plain c) b.seen in
+    Meets s g.seen (events.of_kind end (read end d) (out-Kind (kinds.Case a.made b.made g.made)) start mark) (events.of_kind odd (read odd d) (Kind-F.Case (node_if o) (nodes_of whens) otherwise.0) start mark)
+case_walks d o whens otherwise e start mark c s =
+    let a = if_any (part_if o) (plain c) s in
+    let b = all (parts_of whens) e a.seen in
+    let g = (part None otherwise.0).walk (plain c) b.seen in
+    made_as _ _ (kinds.rolls-Case a.made b.made g.made) d start mark (met (steps_then (steps_then (if_steps d o (plain c) s) (all_steps d whens e a.seen)) (one d otherwise (plain c) b.seen)))
+
+begin_walks : (d : ℕ) (n : Kid) (clauses : Kids) (o p : MayKid) (start mark : Pos) (c : Around) (s : Seen) →
+    let w = walk.begin_with (part None n.0) (parts_of clauses) (part_if o) (part_if p) c s in
+    Meets s w.seen (events.of_kind end (read end d) (out-Kind w.made) start mark) (events.of_kind odd (read odd d) (Kind-F.Begin n.0 (nodes_of clauses) (node_if o) (node_if p)) start mark)
+begin_walks d n clauses o p start mark c s =
+    let a = (part None n.0).walk (plain c) s in
+    let b = all (parts_of clauses) (plain c) a.seen in
+    let g = if_any (part_if o) (plain c) b.seen in
+    let h = if_any (part_if p) (plain c) g.seen in
+    made_as _ _ (kinds.rolls-Begin a.made b.made g.made h.made) d start mark
+    (met (steps_then (steps_then (steps_then (one d n (plain c) s) (all_steps d clauses (plain c) a.seen)) (if_steps d o (plain c) b.seen)) (if_steps d p (plain c) g.seen)))
+
+def_walks : (d : ℕ) (o : MayKid) (name : Name) (params : ParamsKid) (n : Kid) (start mark : Pos) (c : Around) (s : Seen) →
+    let w = walk.def (part_if o) name (params_part None params.0) (part None n.0) mark c s in
+    Meets s w.seen (events.of_kind end (read end d) (out-Kind w.made) start mark) (events.of_kind odd (read odd d) (Kind-F.Def (node_if o) name params.0 n.0) start mark)
+def_walks d o name params n start mark c s =
+    let a = if_any (part_if o) (plain c) s in
+    let w = walk.in_body (inside both_parts params.0 n.0 mark within_def) a.seen in
+    made_as _ _ (kinds.rolls-Def a.made name w.made.0 w.made.1) d start mark (met (steps_then (if_steps d o (plain c) s) (method_walks d params n mark a.seen)))
+
+layer_meets : (l : KidLayer) → FormMeets (folded l) (whole_of l)
+layer_meets (Kind-F.Lit which) = form_meets _ _ refl refl (λ d start mark c s. made_as _ _ (kinds.rolls-Lit _) d start mark (met (stays s)))
+layer_meets Kind-F.SelfRef = form_meets _ _ refl refl (λ d start mark c s. made_as _ _ kinds.rolls-SelfRef d start mark (met (stays s)))
+layer_meets (Kind-F.Int value) = form_meets _ _ refl refl (λ d start mark c s. made_as _ _ (kinds.rolls-Int _) d start mark (met (stays s)))
+layer_meets (Kind-F.Str text) = str_meets text
+layer_meets (Kind-F.Interp parts) = form_meets _ _ refl refl (λ d start mark c s. made_as _ _ (kinds.rolls-Interp _) d start mark (met (all_steps d parts (plain c) s)))
+layer_meets (Kind-F.ArrayLit items) = form_meets _ _ refl refl (λ d start mark c s. made_as _ _ (kinds.rolls-ArrayLit _) d start mark (met (all_steps d items (plain c) s)))
+layer_meets (Kind-F.HashLit keys values) = form_meets _ _ refl refl (λ d start mark c s. made_as _ _ (kinds.rolls-HashLit _ _) d start mark (met (pairs_steps d keys values (plain c) s)))
+layer_meets (Kind-F.RangeLit low high without_end) =
+    form_meets _ _ refl refl (λ d start mark c s. made_as _ _ (kinds.rolls-RangeLit _ _ _) d start mark (met (quiet_then (refused (is_condition c.role) mark _ s) (steps_then (one d low (plain c) _) (one d high (plain c) _)))))
+layer_meets (Kind-F.LocalGet name) = form_meets _ _ refl refl (λ d start mark c s. made_as _ _ (kinds.rolls-LocalGet _) d start mark (local_get name d start mark s))
+layer_meets (Kind-F.IvarGet name) = form_meets _ _ refl refl (λ d start mark c s. made_as _ _ (kinds.rolls-IvarGet _) d start mark (met (stays s)))
+layer_meets (Kind-F.GlobalGet name) = form_meets _ _ refl refl (λ d start mark c s. made_as _ _ (kinds.rolls-GlobalGet _) d start mark (met (stays s)))
+layer_meets (Kind-F.ConstGet base name) =
+    form_meets _ _ refl refl (λ d start mark c s. made_as _ _ (kinds.rolls-ConstGet _ _) d start mark (met (quiet_then (quiet_quiet (refused _ mark _ s) (refused _ mark _ _)) (base.1 d (plain c) _))))
+layer_meets (Kind-F.LocalSet name value) = form_meets _ _ refl refl (λ d start mark c s. made_as _ _ (kinds.rolls-LocalSet _ _) d start mark (local_set name value d start mark (plain c) s))
+layer_meets (Kind-F.IvarSet name value) = form_meets _ _ refl refl (λ d start mark c s. made_as _ _ (kinds.rolls-IvarSet _ _) d start mark (met (one d value (plain c) s)))
+layer_meets (Kind-F.GlobalSet name value) = form_meets _ _ refl refl (λ d start mark c s. made_as _ _ (kinds.rolls-GlobalSet _ _) d start mark (met (one d value (plain c) s)))
+layer_meets (Kind-F.ConstSet name value) =
+    form_meets _ _ refl refl (λ d start mark c s. made_as _ _ (kinds.rolls-ConstSet _ _) d start mark (met (quiet_then (refused c.in_def mark _ s) (one d value (plain c) _))))
+layer_meets (Kind-F.MultiSet targets value) =
+    form_meets _ _ refl refl (λ d start mark c s. made_as _ _ (kinds.rolls-MultiSet _ _) d start mark (met (steps_then (targets_steps d targets (as_role role.Target c) s) (one d value (plain c) _))))
+layer_meets (Kind-F.AttrSet receiver name args value) =
+    form_meets _ _ refl refl (λ d start mark c s. made_as _ _ (kinds.rolls-AttrSet _ _ _ _) d start mark
+    (met (quiet_then (of_called _ s) (steps_then (steps_then (one d receiver (plain c) _) (all_steps d args (plain c) _)) (one d value (plain c) _)))))
+layer_meets (Kind-F.AttrOpSet receiver name args op value) =
+    form_meets _ _ refl refl (λ d start mark c s. made_as _ _ (kinds.rolls-AttrOpSet _ _ _ _ _) d start mark
+    (met (quiet_then (quiet_quiet (of_called name s) (quiet_quiet (of_called (setter name) _) (of_called_if_any (operator_name op) _)))
+    (steps_then (steps_then (one d receiver (plain c) _) (all_steps d args (plain c) _)) (one d value (plain c) _)))))
+layer_meets (Kind-F.Call None name args None marked) = call_meets None None name args marked
+layer_meets (Kind-F.Call None name args (Some block) marked) = call_meets None (Some block) name args marked
+layer_meets (Kind-F.Call (Some receiver) name args None marked) = call_meets (Some receiver) None name args marked
+layer_meets (Kind-F.Call (Some receiver) name args (Some block) marked) = call_meets (Some receiver) (Some block) name args marked
+layer_meets (Kind-F.Super None None) = form_meets _ _ refl refl (λ d start mark c s. super_walks d None None start mark c s)
+layer_meets (Kind-F.Super None (Some block)) = form_meets _ _ refl refl (λ d start mark c s. super_walks d None (Some block) start mark c s)
+layer_meets (Kind-F.Super (Some args) None) = form_meets _ _ refl refl (λ d start mark c s. super_walks d (Some args) None start mark c s)
+layer_meets (Kind-F.Super (Some args) (Some block)) = form_meets _ _ refl refl (λ d start mark c s. super_walks d (Some args) (Some block) start mark c s)
+layer_meets (Kind-F.Yield args) = form_meets _ _ refl refl (λ d start mark c s. made_as _ _ (kinds.rolls-Yield _) d start mark (met (quiet_then (refused _ mark _ s) (all_steps d args (plain c) _))))
+layer_meets (Kind-F.Block params n) = form_meets _ _ refl refl (λ d start mark c s. made_as _ _ (kinds.rolls-Block _ _) d start mark (met (block_walks d params n (λ p b. kinds.Block p b) start mark (within_block c) s)))
+layer_meets (Kind-F.BlockPass value) = form_meets _ _ refl refl (λ d start mark c s. made_as _ _ (kinds.rolls-BlockPass _) d start mark (met (one d value (plain c) s)))
+layer_meets (Kind-F.Lambda params n) = form_meets _ _ refl refl (λ d start mark c s. made_as _ _ (kinds.rolls-Lambda _ _) d start mark (met (block_walks d params n (λ p b. kinds.Lambda p b) start mark (within_lambda c) s)))
+layer_meets (Kind-F.Splat value) = form_meets _ _ refl refl (λ d start mark c s. made_as _ _ (kinds.rolls-Splat _) d start mark (splat value d start mark (cond (is_target c.role) c (plain c)) s))
+layer_meets (Kind-F.Not value) = form_meets _ _ refl refl (λ d start mark c s. made_as _ _ (kinds.rolls-Not _) d start mark (met (one d value (cond (is_condition c.role) c (plain c)) s)))
+layer_meets (Kind-F.And left right) = form_meets _ _ refl refl (λ d start mark c s. made_as _ _ (kinds.rolls-And _ _) d start mark (met (joined_walks d left right (plain c) (plain c) s)))
+layer_meets (Kind-F.Or left right) = form_meets _ _ refl refl (λ d start mark c s. made_as _ _ (kinds.rolls-Or _ _) d start mark (met (joined_walks d left right (plain c) (plain c) s)))
+layer_meets (Kind-F.If test first second) =
+    form_meets _ _ refl refl (λ d start mark c s. made_as _ _ (kinds.rolls-If _ _ _) d start mark (met (branches_steps d test first second (as_role role.Condition c) (plain c) s)))
+layer_meets (Kind-F.While test n body_first) =
+    form_meets _ _ refl refl (λ d start mark c s. made_as _ _ (kinds.rolls-While _ _ _) d start mark (met (guarded_steps d test n (as_role role.Condition (within_loop c)) (within_loop c) s)))
+layer_meets (Kind-F.Case None whens otherwise) = form_meets _ _ refl refl (λ d start mark c s. case_walks d None whens otherwise (as_role role.Condition c) start mark c s)
+layer_meets (Kind-F.Case (Some subject) whens otherwise) = form_meets _ _ refl refl (λ d start mark c s. case_walks d (Some subject) whens otherwise (plain c) start mark c s)
+layer_meets (Kind-F.When tests n) =
+    form_meets _ _ refl refl (λ d start mark c s. made_as _ _ (kinds.rolls-When _ _) d start mark (met (steps_then (all_steps d tests (cond (is_condition c.role) c (plain c)) s) (one d n (plain c) _))))
+layer_meets (Kind-F.Begin n clauses None None) = form_meets _ _ refl refl (λ d start mark c s. begin_walks d n clauses None None start mark c s)
+layer_meets (Kind-F.Begin n clauses None (Some last)) = form_meets _ _ refl refl (λ d start mark c s. begin_walks d n clauses None (Some last) start mark c s)
+layer_meets (Kind-F.Begin n clauses (Some next) None) = form_meets _ _ refl refl (λ d start mark c s. begin_walks d n clauses (Some next) None start mark c s)
+layer_meets (Kind-F.Begin n clauses (Some next) (Some last)) = form_meets _ _ refl refl (λ d start mark c s. begin_walks d n clauses (Some next) (Some last) start mark c s)
+layer_meets (Kind-F.Rescue classes name n) =
+    form_meets _ _ refl refl (λ d start mark c s. made_as _ _ (kinds.rolls-Rescue _ _ _) d start mark (met (steps_then (steps_then (all_steps d classes (plain c) s) (rescued_steps mark name _)) (one d n (within_rescue c) _))))
+layer_meets Kind-F.Retry = form_meets _ _ refl refl (λ d start mark c s. made_as _ _ kinds.rolls-Retry d start mark (met (quiet_steps (refused _ mark _ s))))
+layer_meets Kind-F.Reraise = form_meets _ _ refl refl (λ d start mark c s. made_as _ _ kinds.rolls-Reraise d start mark (met (stays s)))
+layer_meets (Kind-F.Jump which value) = form_meets _ _ refl refl (λ d start mark c s. made_as _ _ (kinds.rolls-Jump _ _) d start mark (met (quiet_then (refused _ mark _ s) (one d value (plain c) _))))
+layer_meets (Kind-F.Def None name params n) = form_meets _ _ refl refl (λ d start mark c s. def_walks d None name params n start mark c s)
+layer_meets (Kind-F.Def (Some on) name params n) = form_meets _ _ refl refl (λ d start mark c s. def_walks d (Some on) name params n start mark c s)
+layer_meets (Kind-F.ModuleDef form name n) =
+    form_meets _ _ refl refl (λ d start mark c s. made_as _ _ (kinds.rolls-ModuleDef _ _ _) d start mark (met (quiet_then (refused c.in_def mark _ s) (steps_then (form.1 d (plain c) _) (body_walks d n _ _ _)))))
+layer_meets (Kind-F.Alias new old) = form_meets _ _ refl refl (λ d start mark c s. made_as _ _ (kinds.rolls-Alias _ _) d start mark (met (stays s)))
+layer_meets (Kind-F.Undef names) = form_meets _ _ refl refl (λ d start mark c s. made_as _ _ (kinds.rolls-Undef _) d start mark (met (stays s)))
+layer_meets (Kind-F.Seq items) = form_meets _ _ refl refl (λ d start mark c s. made_as _ _ (kinds.rolls-Seq _) d start mark (met (all_steps d items (plain c) s)))
+layer_meets (Kind-F.Require name relative) = form_meets _ _ refl refl (λ d start mark c s. made_as _ _ (kinds.rolls-Require _ _) d start mark (met (stays s)))
+layer_meets (Kind-F.Prim name args) = form_meets _ _ refl refl (λ d start mark c s. made_as _ _ (kinds.rolls-Prim _ _) d start mark (met (all_steps d args (plain c) s)))
