@@ -705,3 +705,158 @@ layer_meets (Kind-F.Undef names) = form_meets _ _ refl refl (λ d start mark c s
 layer_meets (Kind-F.Seq items) = form_meets _ _ refl refl (λ d start mark c s. made_as _ _ (kinds.rolls-Seq _) d start mark (met (all_steps d items (plain c) s)))
 layer_meets (Kind-F.Require name relative) = form_meets _ _ refl refl (λ d start mark c s. made_as _ _ (kinds.rolls-Require _ _) d start mark (met (stays s)))
 layer_meets (Kind-F.Prim name args) = form_meets _ _ refl refl (λ d start mark c s. made_as _ _ (kinds.rolls-Prim _ _) d start mark (met (all_steps d args (plain c) s)))
+
+kind_meets : (l : KidLayer) → KindMeets (roll-Kind (whole_of l))
+unfolding part form_part base_part module_part params_part
+kind_meets l = subst (FormMeets (form_part None (roll-Kind (whole_of l)))) (sym (out-roll-Kind (whole_of l)))
+    (subst (λ f. FormMeets f (whole_of l)) (sym (fold-roll-Kind BasePart FormPart (Walk ModuleForm) Part (Pos → Walk Params) of_base (of_kind None) of_form of_node of_params (whole_of l))) (layer_meets l))
+
+-- ---- the other types of the tree
+
+abbrev BaseLayer : Type 0
+BaseLayer = Base-F ((b : Base) × BaseMeets b) ((k : Kind) × KindMeets k) ((f : ModuleForm) × ModuleMeets f) Kid ParamsKid
+
+abbrev whole_base : BaseLayer → Base-F Base Kind ModuleForm Node Params
+whole_base = map-Base ((b : Base) × BaseMeets b) ((k : Kind) × KindMeets k) ((f : ModuleForm) × ModuleMeets f) Kid ParamsKid Base Kind ModuleForm Node Params (λ e. e.0) (λ e. e.0) (λ e. e.0) (λ e. e.0) (λ e. e.0)
+
+abbrev BaseWalks : BasePart → Base-F Base Kind ModuleForm Node Params → Type 0
+BaseWalks b o = (d : ℕ) (c : Around) (s : Seen) → Steps s (b.walk c s).seen (events.of_base (read end d) (out-Base (b.walk c s).made)) (events.of_base (read odd d) o)
+
+base_as : {s t : Seen} {e : Events} (l : Base-F Base Kind ModuleForm Node Params) (k : Base) → roll-Base l ≡ k → (d : ℕ) → Steps s t (events.of_base (read end d) l) e → Steps s t (events.of_base (read end d) (out-Base k)) e
+base_as {s} {t} {e} l k r d x = subst (λ z. Steps s t (events.of_base (read end d) z) e) (sym (ap out-Base (sym r) ∙ out-roll-Base l)) x
+
+base_layer : (l : BaseLayer) → BaseWalks (of_base (map-Base Base Kind ModuleForm Node Params BasePart FormPart (Walk ModuleForm) Part (Pos → Walk Params) (base_part None) (form_part None) (module_part None) (part None) (params_part None) (whole_base l))) (whole_base l)
+base_layer Base-F.Here d c s = base_as Base-F.Here _ bases.rolls-Here d (stays s)
+base_layer Base-F.Top d c s = base_as Base-F.Top _ bases.rolls-Top d (stays s)
+base_layer (Base-F.In n) d c s = base_as (Base-F.In ((part None n.0).walk c s).made) _ (bases.rolls-In ((part None n.0).walk c s).made) d (one d n c s)
+
+base_meets : (l : BaseLayer) → BaseMeets (roll-Base (whole_base l))
+unfolding part form_part base_part module_part params_part
+base_meets l = subst (BaseWalks (base_part None (roll-Base (whole_base l)))) (sym (out-roll-Base (whole_base l)))
+    (subst (λ b. BaseWalks b (whole_base l)) (sym (fold-roll-Base BasePart FormPart (Walk ModuleForm) Part (Pos → Walk Params) of_base (of_kind None) of_form of_node of_params (whole_base l))) (base_layer l))
+
+abbrev ModuleLayer : Type 0
+ModuleLayer = ModuleForm-F ((b : Base) × BaseMeets b) ((k : Kind) × KindMeets k) ((f : ModuleForm) × ModuleMeets f) Kid ParamsKid
+
+abbrev whole_module : ModuleLayer → ModuleForm-F Base Kind ModuleForm Node Params
+whole_module = map-ModuleForm ((b : Base) × BaseMeets b) ((k : Kind) × KindMeets k) ((f : ModuleForm) × ModuleMeets f) Kid ParamsKid Base Kind ModuleForm Node Params (λ e. e.0) (λ e. e.0) (λ e. e.0) (λ e. e.0) (λ e. e.0)
+
+abbrev ModuleWalks : Walk ModuleForm → ModuleForm-F Base Kind ModuleForm Node Params → Type 0
+ModuleWalks w o = (d : ℕ) (c : Around) (s : Seen) → Steps s (w c s).seen (events.of_form (read end d) (out-ModuleForm (w c s).made)) (events.of_form (read odd d) o)
+
+module_as : {s t : Seen} {e : Events} (l : ModuleForm-F Base Kind ModuleForm Node Params) (k : ModuleForm) → roll-ModuleForm l ≡ k → (d : ℕ) → Steps s t (events.of_form (read end d) l) e → Steps s t (events.of_form (read end d) (out-ModuleForm k)) e
+module_as {s} {t} {e} l k r d x = subst (λ z. Steps s t (events.of_form (read end d) z) e) (sym (ap out-ModuleForm (sym r) ∙ out-roll-ModuleForm l)) x
+
+class_walks : (o : MayKid) → ModuleWalks (λ c s. walk.onto (λ n. forms.Class n) (if_any (part_if o) c s)) (ModuleForm-F.Class (node_if o))
+class_walks o d c s = module_as (ModuleForm-F.Class (if_any (part_if o) c s).made) _ (forms.rolls-Class (if_any (part_if o) c s).made) d (if_steps d o c s)
+
+module_layer : (l : ModuleLayer) → ModuleWalks (of_form (map-ModuleForm Base Kind ModuleForm Node Params BasePart FormPart (Walk ModuleForm) Part (Pos → Walk Params) (base_part None) (form_part None) (module_part None) (part None) (params_part None) (whole_module l))) (whole_module l)
+module_layer (ModuleForm-F.Class None) d c s = class_walks None d c s
+module_layer (ModuleForm-F.Class (Some n)) d c s = class_walks (Some n) d c s
+module_layer ModuleForm-F.Module d c s = module_as ModuleForm-F.Module _ forms.rolls-Module d (stays s)
+module_layer (ModuleForm-F.Singleton n) d c s = module_as (ModuleForm-F.Singleton ((part None n.0).walk c s).made) _ (forms.rolls-Singleton ((part None n.0).walk c s).made) d (one d n c s)
+
+module_meets : (l : ModuleLayer) → ModuleMeets (roll-ModuleForm (whole_module l))
+unfolding part form_part base_part module_part params_part
+module_meets l = subst (ModuleWalks (module_part None (roll-ModuleForm (whole_module l)))) (sym (out-roll-ModuleForm (whole_module l)))
+    (subst (λ w. ModuleWalks w (whole_module l)) (sym (fold-roll-ModuleForm BasePart FormPart (Walk ModuleForm) Part (Pos → Walk Params) of_base (of_kind None) of_form of_node of_params (whole_module l))) (module_layer l))
+
+abbrev ParamsLayer : Type 0
+ParamsLayer = Params-F ((b : Base) × BaseMeets b) ((k : Kind) × KindMeets k) ((f : ModuleForm) × ModuleMeets f) Kid ParamsKid
+
+abbrev whole_params : ParamsLayer → Params-F Base Kind ModuleForm Node Params
+whole_params = map-Params ((b : Base) × BaseMeets b) ((k : Kind) × KindMeets k) ((f : ModuleForm) × ModuleMeets f) Kid ParamsKid Base Kind ModuleForm Node Params (λ e. e.0) (λ e. e.0) (λ e. e.0) (λ e. e.0) (λ e. e.0)
+
+abbrev ParamsWalks : (Pos → Walk Params) → Params-F Base Kind ModuleForm Node Params → Type 0
+ParamsWalks w o = (d : ℕ) (start mark : Pos) (c : Around) (s : Seen) → Steps s (w mark c s).seen (events.of_params (read end d) start (out-Params (w mark c s).made)) (events.of_params (read odd d) start o)
+
+params_layer : (l : ParamsLayer) → ParamsWalks (of_params (map-Params Base Kind ModuleForm Node Params BasePart FormPart (Walk ModuleForm) Part (Pos → Walk Params) (base_part None) (form_part None) (module_part None) (part None) (params_part None) (whole_params l))) (whole_params l)
+params_layer l d start mark c s =
+    let t = slots mark l.plain s in
+    let w = defaults_in_turn mark l.optional (parts_of l.defaults) c t in
+    let x : Params-F Base Kind ModuleForm Node Params = record { plain = l.plain; optional = l.optional; defaults = w.made; rest = l.rest; after = l.after; block = l.block } in
+    let q = behind_all start (nodes_of l.defaults) in
+    let r = rest_name mark l.rest w.seen in
+    let a = slots mark l.after r in
+    subst (λ z. Steps s (block_name mark l.block a) (events.of_params (read end d) start z) (events.of_params (read odd d) start (whole_params l))) (sym (out-roll-Params x))
+    (subst (λ z. Steps s (block_name mark l.block a) (chain (chain (slots_at start l.plain) (defaults_at (read end d) start l.optional w.made)) (chain (chain (rest_at z l.rest) (slots_at z l.after)) (name_at z l.block))) (events.of_params (read odd d) start (whole_params l)))
+    (sym (behind_same d mark start l.optional l.defaults c t))
+    (steps_then (steps_then (slots_steps d mark start l.plain s) (defaults_steps d mark start l.optional l.defaults c t))
+    (steps_then (steps_then (rest_steps d mark q l.rest w.seen) (slots_steps d mark q l.after r)) (name_steps d mark q l.block a))))
+
+params_meet : (l : ParamsLayer) → ParamsMeet (roll-Params (whole_params l))
+unfolding part form_part base_part module_part params_part
+params_meet l = subst (ParamsWalks (params_part None (roll-Params (whole_params l)))) (sym (out-roll-Params (whole_params l)))
+    (subst (λ (w : Pos → Walk Params). ParamsWalks w (whole_params l)) (sym (fold-roll-Params BasePart FormPart (Walk ModuleForm) Part (Pos → Walk Params) of_base (of_kind None) of_form of_node of_params (whole_params l))) (params_layer l))
+
+-- ---- a node
+
+is_bare : (o : Option Name) (span : Span) (s : Seen) (name : Name) → bare_local o span s ≡ Some name → (o ≡ Some name) × (is_local s name ≡ true)
+unfolding bare_local
+is_bare None span s name e = no_name name e
+is_bare (Some x) span s name e = by (walk.spans_name span x) (is_local s x) refl e where
+  by : (b c : Bool) → is_local s x ≡ c → cond (b && c) (Some x) None ≡ Some name → (Some x ≡ Some name) × (is_local s name ≡ true)
+  by true true l e = (e, subst (λ z. is_local s z ≡ true) (same_some x name e) l)
+  by true false l e = no_name name e
+  by false c l e = no_name name e
+
+local_after : (b : Bool) (p : Pos) (s : Seen) (name : Name) → is_local s name ≡ true → is_local (cond b s (unbuilt_at p s)) name ≡ true
+unfolding is_local unbuilt_at
+local_after true p s name e = e
+local_after false p s name e = e
+
+module _ (f : FormPart) (k : Kind) (h : FormMeets f (out-Kind k)) (span : Span) (mark : Pos) where
+  abbrev node_of : Part
+  node_of = of_node (record { kind = f; span = span; mark = mark })
+
+  abbrev source : Node
+  source = record { kind = k; span = span; mark = mark }
+
+  abbrev made_node : Kind → Node
+  made_node z = record { kind = z; span = span; mark = mark }
+
+  nothing_met : {s t : Seen} → Meets s t (only odd) (only odd)
+  nothing_met = met never
+
+  node_walks : (o : Option Name) (d : ℕ) (c : Around) (s : Seen) → bare_local f.name span s ≡ o →
+      let t = cond (f.built c.role) s (unbuilt_at span.from s) in
+      let w = local_or o (f.walk mark c) t in
+      Meets s w.seen (read end d (made_node w.made)) (read odd d source)
+  unfolding local_or
+  node_walks o zero c s e = nothing_met
+  node_walks None (suc d) c s e = quiet_meets (of_unbuilt (f.built c.role) span.from s) (h.walks d span.from mark c _)
+  node_walks (Some name) (suc d) c s e =
+      let b = is_bare f.name span s name e in
+      let t = cond (f.built c.role) s (unbuilt_at span.from s) in
+      let q = quiet_quiet (of_unbuilt (f.built c.role) span.from s) (local_quiet name t (local_after (f.built c.role) span.from s name b.1)) in
+      made_as _ _ (kinds.rolls-LocalGet name) d span.from mark
+      (subst (λ z. Meets s (name_local name t) (events.of_kind end (read end d) (Kind-F.LocalGet name) span.from mark) z) (sym (h.alone name b.0 d span.from mark))
+      (record { names = quiet_steps q; targets = never; reads = λ x e. no_name x e; sets = λ x e. no_name x e; made = λ x e. refl }))
+
+  node_quoted : is_some f.text ≡ true → (d : ℕ) → is_whole (read odd d source).events ≡ true → (read odd d source).events ≡ end
+  node_quoted e zero w = absurd (false≢true w)
+  node_quoted e (suc d) w = h.quoted e d span.from mark
+
+  of_node_meets : PartMeets node_of source
+  of_node_meets = record {
+    walks = λ d c s. node_walks (bare_local f.name span s) d c s refl;
+    starts = refl;
+    span = λ c s. refl;
+    quoted = node_quoted;
+  }
+
+node_step : (x : Node-F Base Kind ModuleForm Node Params) → KindMeets x.kind → NodeMeets (roll-Node x)
+unfolding part form_part base_part module_part params_part
+node_step x h = subst (λ p. PartMeets p (roll-Node x)) (sym (fold-roll-Node BasePart FormPart (Walk ModuleForm) Part (Pos → Walk Params) of_base (of_kind None) of_form of_node of_params x)) (of_node_meets (form_part None x.kind) x.kind h x.span x.mark)
+
+node_meets : (node : Node) → NodeMeets node
+node_meets = ind-Node BaseMeets KindMeets ModuleMeets NodeMeets ParamsMeet
+    (λ x y is. subst (λ l. BaseMeets (roll-Base l)) is (base_meets y))
+    (λ x y is. subst (λ l. KindMeets (roll-Kind l)) is (kind_meets y))
+    (λ x y is. subst (λ l. ModuleMeets (roll-ModuleForm l)) is (module_meets y))
+    (λ x y is. node_step x (subst KindMeets (ap (λ (n : Node-F Base Kind ModuleForm Node Params). n.kind) is) y.kind.1))
+    (λ x y is. subst (λ l. ParamsMeet (roll-Params l)) is (params_meet y))
+
+-- from the start of a node to its end, at any depth
+pub walk_steps : (node : Node) (d : ℕ) (c : Around) (s : Seen) → Steps s ((part None node).walk c s).seen (read end d ((part None node).walk c s).made).events (read odd d node).events
+walk_steps node d c s = ((node_meets node).walks d c s).names
