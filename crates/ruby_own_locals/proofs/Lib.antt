@@ -3,3 +3,4 @@ mod Meeting
 mod Telling
 mod Steps
 mod Walking
+mod OwnScopes

@@ -1,16 +1,11 @@
 -- What the events say of the lists of names.
-use Rattle.std.proofs.Common.{◌≡◌, ℕ, Bool, true, false, not, ◌&&◌, ◌||◌, cond, List, [], ◌∷◌, ◌++◌, map, Option, None, Some, refl, sym, ap, ◌∙◌, subst, append_assoc, append-nil}
-use Rattle.std.specs.Prelude.{bytes_eq, filter, ⊤}
-use Rattle.std.specs.List.{list_any}
+use Rattle.std.proofs.Common.{◌≡◌, Bool, true, false, ◌&&◌, ◌||◌, cond, List, [], ◌∷◌, ◌++◌, refl, sym, ap, ◌∙◌, subst, append_assoc}
 use Rattle.std.proofs.lemmas.Bool.{false≢true}
-use Rattle.std.proofs.lemmas.List.Folds.{list_any-append}
-use Rattle.std.proofs.lemmas.Slice.Eq.{bytes_eq-Decides}
 use Rattle.opal_base.specs.declared.place.Pos.{Pos}
 use Rattle.ruby_meaning.specs.Scoping.Names.{Name, has, with_name}
 use Rattle.ruby_meaning.specs.Scoping.Seen.{stands_before, outside}
-use Rattle.ruby_evaluation.specs.Locals.{Declared, declares_before}
 use Rattle.ruby_own_locals.specs.Events.{Events, end, odd, takes, sets, opens, apart, chain}
-use Rattle.ruby_own_locals.specs.Law.{visible, own_in, found, SameNames, starts, places, Each, InOrder, is_whole}
+use Rattle.ruby_own_locals.specs.Law.{starts, places, Each, InOrder, is_whole}
 
 -- ---- truth values
 

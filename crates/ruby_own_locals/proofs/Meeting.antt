@@ -1,17 +1,16 @@
 -- The lists that evaluation finds and those of scope meet, where places are in order.
-use Rattle.std.proofs.Common.{◌≡◌, ℕ, Bool, true, false, not, ◌&&◌, ◌||◌, cond, List, [], ◌∷◌, ◌++◌, map, Option, None, Some, refl, sym, ap, ◌∙◌, subst, append_assoc, append-nil}
+use Rattle.std.proofs.Common.{◌≡◌, ℕ, Bool, true, false, not, ◌&&◌, ◌||◌, cond, List, [], ◌∷◌, ◌++◌, refl, sym, ap, ◌∙◌, subst}
 use Rattle.std.specs.Prelude.{bytes_eq, filter, if◌then◌else◌, ⊤}
 use Rattle.std.specs.List.{list_any}
-use Rattle.std.proofs.lemmas.Bool.{false≢true}
 use Rattle.std.proofs.lemmas.List.Folds.{list_any-append}
 use Rattle.std.proofs.lemmas.Slice.Eq.{bytes_eq-Decides}
 use Rattle.opal_base.specs.declared.place.Pos.{Pos}
 use Rattle.ruby_meaning.specs.Scoping.Names.{Name, has, with_name}
 use Rattle.ruby_meaning.specs.Scoping.Seen.{stands_before, outside}
 use Rattle.ruby_evaluation.specs.Locals.{Declared, declares_before}
-use Rattle.ruby_own_locals.specs.Events.{Events, end, odd, takes, sets, opens, apart, chain}
-use Rattle.ruby_own_locals.specs.Law.{visible, own_in, found, SameNames, starts, places, Each, InOrder, is_whole}
-use Rattle.ruby_own_locals.proofs.Lists.{or_assoc, or_false, or_swap, left_true, right_true, set_name, noted, owns_in}
+use Rattle.ruby_own_locals.specs.Events.{Events, end, odd, takes, sets, opens, apart}
+use Rattle.ruby_own_locals.specs.Law.{visible, own_in, found, SameNames, starts, places, Each, InOrder}
+use Rattle.ruby_own_locals.proofs.Lists.{or_false, or_swap, set_name, noted, owns_in}
 
 -- the list has the name at such a place
 abbrev pub says_at : Name → (Pos → Bool) → Declared → Bool
@@ -83,10 +82,12 @@ has_set outer own n x = by (bytes_eq x n) refl where
   self true c e f = e
   self false true e f = e
   self false false e f = has_with own n n ∙ rw (e, same_self n) refl
+
   other : (b c : Bool) → bytes_eq x n ≡ false → has (cond b own (cond c own (with_name own n))) x ≡ has own x
   other true c e = refl
   other false true e = refl
   other false false e = has_with own n x ∙ ap (λ d. has own x || d) e ∙ or_false (has own x)
+
   by : (b : Bool) → bytes_eq x n ≡ b → has (set_name outer own n) x ≡ (has own x || (not (outside outer x) && b))
   by true e = subst (λ z. has (set_name outer own n) z ≡ (has own z || (not (outside outer z) && true))) (sym (same_names x n e)) (self (has own n) (outside outer n) refl refl)
   by false e = other (has own n) (outside outer n) e ∙ sym (ap (λ d. has own x || d) (and_false (not (outside outer x))) ∙ or_false (has own x))
@@ -146,6 +147,7 @@ filtered v x at (d ∷ ds) = by (v d.0) refl (filtered v x at ds) where
   here true false m e f h = rw (h, ap v (same_names x d.0 e) ∙ f) refl
   here false true m e f h = h
   here false false m e f h = h
+
   by : (w : Bool) → v d.0 ≡ w → says_at x at (filter (λ d. not (v d.0)) ds) ≡ (not (v x) && says_at x at ds)
       → says_at x at (cond (not w) (d ∷ filter (λ d. not (v d.0)) ds) (filter (λ d. not (v d.0)) ds)) ≡ (not (v x) && says_at x at (d ∷ ds))
   by true f h = here (bytes_eq x d.0) true _ refl f h
@@ -157,7 +159,7 @@ any_says x (d ∷ ds) = rw (only_true (bytes_eq x d.0), any_says x ds) refl
 
 -- ---- all of some places
 
-each_all : {A : Pos → Type 0} → ((q : Pos) → A q) → (l : List Pos) → Each A l
+pub each_all : {A : Pos → Type 0} → ((q : Pos) → A q) → (l : List Pos) → Each A l
 each_all f [] = tt
 each_all f (q ∷ l) = (f q, each_all f l)
 
@@ -278,11 +280,12 @@ meets outer own around frame (opens p ps ds i r) s o a k =
     let inside = each_zip (around_block outer own around frame p ps ds i r) l o.0 both in
     let says = own_says outer own around frame p ps ds i inside.0 s.0 s.1 in
     let frame' = own_in (frame ∷ around) p ps ds in
-    same_append (frame' ∷ found (frame' ∷ (frame ∷ around)) i) (found (frame ∷ around) r) (noted (outer ++ own ∷ []) [] i ∷ owns_in (outer ++ own ∷ []) [] i) (owns_in outer own r)
-        (λ u us. any_says (u ∷ us) frame' ∙ says u us anywhere ∙ sym (noted_has (outer ++ own ∷ []) [] i (u ∷ us)),
-        meets (outer ++ own ∷ []) [] (frame ∷ around) frame' i s.2 o.1 inside.1 (each_all (λ q u us. says u us (λ p. stands_before p q)) (starts i)))
-        (meets outer own around frame r s.3 o.2 (each_right _ l (starts r) a) (each_right _ l (starts r) k))
+    same_append (frame' ∷ found (frame' ∷ (frame ∷ around)) i) (found (frame ∷ around) r) (noted (outer ++ own ∷ []) [] i ∷ owns_in (outer ++ own ∷ []) [] i) (owns_in outer own r) (
+      λ u us. any_says (u ∷ us) frame' ∙ says u us anywhere ∙ sym (noted_has (outer ++ own ∷ []) [] i (u ∷ us)),
+      meets (outer ++ own ∷ []) [] (frame ∷ around) frame' i s.2 o.1 inside.1 (each_all (λ q u us. says u us (λ p. stands_before p q)) (starts i)),
+    )
+    (meets outer own around frame r s.3 o.2 (each_right _ l (starts r) a) (each_right _ l (starts r) k))
 meets outer own around frame (apart ds i r) s o a k =
     same_append (ds ∷ found (ds ∷ []) i) (found (frame ∷ around) r) (noted [] [] i ∷ owns_in [] [] i) (owns_in outer own r)
-        (whole_body ds i s.0, meets [] [] [] ds i s.1 o.0 (each_all (λ q u us. refl) (starts i)) (each_all (λ q u us. body_says ds i s.0 u us (λ p. stands_before p q)) (starts i)))
-        (meets outer own around frame r s.2 o.1 a k)
+    (whole_body ds i s.0, meets [] [] [] ds i s.1 o.0 (each_all (λ q u us. refl) (starts i)) (each_all (λ q u us. body_says ds i s.0 u us (λ p. stands_before p q)) (starts i)))
+    (meets outer own around frame r s.2 o.1 a k)

@@ -1,5 +1,5 @@
 -- One step of scope's walk after another, with what the text says in it: of the tree as it was parsed, and as scope makes it.
-use Rattle.std.proofs.Common.{◌≡◌, ℕ, Bool, true, false, not, ◌&&◌, ◌||◌, cond, List, [], ◌∷◌, ◌++◌, map, Option, None, Some, refl, sym, ap, ◌∙◌, subst, append_assoc, append-nil}
+use Rattle.std.proofs.Common.{◌≡◌, Bool, true, false, not, ◌&&◌, ◌||◌, cond, List, [], ◌∷◌, ◌++◌, map, Option, None, Some, refl, sym, ap, ◌∙◌, append_assoc, append-nil}
 use Rattle.std.proofs.lemmas.Bool.{false≢true}
 use Rattle.std.proofs.lemmas.List.{map-append}
 use Rattle.opal_base.specs.declared.place.Pos.{Pos}
@@ -13,7 +13,7 @@ use Rattle.ruby_meaning.specs.Scoping.Walk.{called_if_any, refuse_marked}
 use Rattle.ruby_evaluation.specs.Locals.{Declared}
 use Rattle.ruby_own_locals.specs.Events.{Events, end, odd, takes, sets, opens, apart, chain}
 use Rattle.ruby_own_locals.specs.Law.{is_whole}
-use Rattle.ruby_own_locals.proofs.Lists.{or_false, left_true, right_true, whole_chain, set_name, noted, owns_in, noted_chain, owns_chain, erase, erase_chain}
+use Rattle.ruby_own_locals.proofs.Lists.{left_true, right_true, whole_chain, noted, owns_in, noted_chain, owns_chain, erase, erase_chain}
 
 abbrev pub owns : List Scope → List (List Name)
 owns l = map (λ s. s.own) l
@@ -50,20 +50,24 @@ stepped_then {s} {t} {u} {ma} {mb} {a} {b} w x y = record {
 }
 
 pub steps_then : {s t u : Seen} {ma mb a b : Events} → Steps s t ma a → Steps t u mb b → Steps s u (chain ma mb) (chain a b)
-steps_then {a = a} {b = b} x y = record { by = λ w.
-    let h = sym (whole_chain a b) ∙ w in
-    stepped_then (left_true (is_whole a) (is_whole b) h) (x.by (left_true (is_whole a) (is_whole b) h)) (y.by (right_true (is_whole a) (is_whole b) h)) }
+steps_then {a = a} {b = b} x y = record {
+  by = λ w.
+      let h = sym (whole_chain a b) ∙ w in
+      stepped_then (left_true (is_whole a) (is_whole b) h) (x.by (left_true (is_whole a) (is_whole b) h)) (y.by (right_true (is_whole a) (is_whole b) h));
+}
 
 pub quiet_then : {s t u : Seen} {ms es : Events} → Quiet s t → Steps t u ms es → Steps s u ms es
-quiet_then {s} {t} {u} {ms} {es} q x = record { by = λ w.
-    let y = x.by w in
-    record {
-      own = y.own ∙ ap (λ o. noted o t.own es) q.outer ∙ ap (λ l. noted s.outer l es) q.own;
-      outer = y.outer ∙ q.outer;
-      scopes = y.scopes ∙ ap (λ l. owns l ++ owns_in t.outer t.own es) q.scopes ∙ ap (λ o. owns s.scopes ++ owns_in o t.own es) q.outer ∙ ap (λ l. owns s.scopes ++ owns_in s.outer l es) q.own;
-      keeps = λ e. q.keeps (y.keeps e);
-      same = y.same;
-    } }
+quiet_then {s} {t} {u} {ms} {es} q x = record {
+  by = λ w.
+      let y = x.by w in
+      record {
+        own = y.own ∙ ap (λ o. noted o t.own es) q.outer ∙ ap (λ l. noted s.outer l es) q.own;
+        outer = y.outer ∙ q.outer;
+        scopes = y.scopes ∙ ap (λ l. owns l ++ owns_in t.outer t.own es) q.scopes ∙ ap (λ o. owns s.scopes ++ owns_in o t.own es) q.outer ∙ ap (λ l. owns s.scopes ++ owns_in s.outer l es) q.own;
+        keeps = λ e. q.keeps (y.keeps e);
+        same = y.same;
+      };
+}
 
 pub quiet_self : (s : Seen) → Quiet s s
 quiet_self s = record { own = refl; outer = refl; scopes = refl; keeps = λ e. e }
@@ -136,9 +140,11 @@ names_one name p s = record { by = λ w. made (has s.own name) (outside s.outer 
 
 pub takes_one : (mark : Pos) (name : Name) (p : Pos) (s : Seen) → Steps s (parameter mark name s) (takes name p end) (takes name p end)
 unfolding parameter
-takes_one mark name p s = record { by = λ w.
-    let q = refused (not (is_underscored name) && has s.params name) mark _ s in
-    record { own = ap (λ l. with_name l name) q.own; outer = q.outer; scopes = ap owns q.scopes ∙ sym (append-nil (owns s.scopes)); keeps = q.keeps; same = λ e. refl } }
+takes_one mark name p s = record {
+  by = λ w.
+      let q = refused (not (is_underscored name) && has s.params name) mark _ s in
+      record { own = ap (λ l. with_name l name) q.own; outer = q.outer; scopes = ap owns q.scopes ∙ sym (append-nil (owns s.scopes)); keeps = q.keeps; same = λ e. refl };
+}
 
 -- ---- scopes
 
@@ -158,25 +164,29 @@ behind_scope before s own l e f = map-append _ before _ ∙ ap (λ l. owns befor
 pub block_steps : (s u : Seen) (p : Pos) (ps ds ps' ds' : Declared) (ms es : Events) → Steps (opened (s.outer ++ s.own ∷ []) s) u ms es
     → Steps s (block_closed s.params s.named s.scopes u) (opens p ps ds ms end) (opens p ps' ds' es end)
 unfolding opened block_closed
-block_steps s u p ps ds ps' ds' ms es x = record { by = λ w.
-    let y = x.by (left_true (is_whole es) true w) in
-    record {
-      own = ap innermost y.outer ∙ innermost_is s.outer s.own;
-      outer = ap outer_ones y.outer ∙ outer_is s.outer s.own;
-      scopes = behind_scope s.scopes u _ _ y.own y.scopes;
-      keeps = y.keeps;
-      same = λ e. ap (λ i. opens p [] [] i end) (y.same e);
-    } }
+block_steps s u p ps ds ps' ds' ms es x = record {
+  by = λ w.
+      let y = x.by (left_true (is_whole es) true w) in
+      record {
+        own = ap innermost y.outer ∙ innermost_is s.outer s.own;
+        outer = ap outer_ones y.outer ∙ outer_is s.outer s.own;
+        scopes = behind_scope s.scopes u _ _ y.own y.scopes;
+        keeps = y.keeps;
+        same = λ e. ap (λ i. opens p [] [] i end) (y.same e);
+      };
+}
 
 pub body_steps : (s u : Seen) (ds ds' : Declared) (ms es : Events) → Steps (opened [] s) u ms es
     → Steps s (body_closed s.own s.params s.named s.outer s.scopes u) (apart ds ms end) (apart ds' es end)
 unfolding opened body_closed
-body_steps s u ds ds' ms es x = record { by = λ w.
-    let y = x.by (left_true (is_whole es) true w) in
-    record {
-      own = refl;
-      outer = refl;
-      scopes = behind_scope s.scopes u _ _ y.own y.scopes;
-      keeps = y.keeps;
-      same = λ e. ap (λ i. apart [] i end) (y.same e);
-    } }
+body_steps s u ds ds' ms es x = record {
+  by = λ w.
+      let y = x.by (left_true (is_whole es) true w) in
+      record {
+        own = refl;
+        outer = refl;
+        scopes = behind_scope s.scopes u _ _ y.own y.scopes;
+        keeps = y.keeps;
+        same = λ e. ap (λ i. apart [] i end) (y.same e);
+      };
+}

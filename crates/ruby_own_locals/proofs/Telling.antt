@@ -1,13 +1,12 @@
 -- The names that evaluation finds in a text are those that its events set.
-use Rattle.std.proofs.Common.{◌≡◌, ℕ, zero, suc, ◌≤◌, Bool, true, false, not, ◌&&◌, ◌||◌, cond, List, [], ◌∷◌, ◌++◌, map, Option, None, Some, refl, sym, ap, ◌∙◌, subst, append_assoc, append-nil, arith}
-use Rattle.std.specs.Prelude.{bytes_eq, filter, if◌then◌else◌, ⊤}
-use Rattle.std.specs.List.{list_any, flat_map}
+use Rattle.std.proofs.Common.{◌≡◌, ℕ, zero, suc, ◌≤◌, Bool, true, false, cond, List, [], ◌∷◌, ◌++◌, Option, None, Some, refl, sym, ap, ◌∙◌, subst, append_assoc, append-nil, arith}
+use Rattle.std.specs.List.{flat_map}
 use Rattle.std.proofs.lemmas.Bool.{false≢true}
 use Rattle.std.proofs.lemmas.List.{map-append}
 use Rattle.std.proofs.lemmas.List.Folds.{list_any-append}
 use Rattle.opal_base.specs.declared.place.Pos.{Pos}
 use Rattle.ruby_meaning.specs.declared.tree.Base.{Base, out-Base}
-use Rattle.ruby_meaning.specs.declared.tree.Base.TheOpen.{Base-F, Kind-F, ModuleForm-F, Params-F}
+use Rattle.ruby_meaning.specs.declared.tree.Base.TheOpen.{Base-F, Kind-F, ModuleForm-F}
 use Rattle.ruby_meaning.specs.declared.tree.Kind.{Kind, out-Kind}
 use Rattle.ruby_meaning.specs.declared.tree.ModuleForm.{ModuleForm, out-ModuleForm}
 use Rattle.ruby_meaning.specs.declared.tree.Node.{Node}
@@ -25,7 +24,7 @@ use Rattle.ruby_evaluation.specs.Calls as calls
 use Rattle.ruby_own_locals.specs.Events.{Events, end, odd, takes, sets, opens, apart, chain, Read, Reading, all_of, if_any, all_if_any, in_turn, guarded, guarded_two, branches, same_name, joined, names_at, slot_at, slots_at, rest_at, name_at, defaults_at, of_params, set_at, in_block, in_method, read}
 use Rattle.ruby_own_locals.specs.Events as events
 use Rattle.ruby_own_locals.specs.Law.{is_whole}
-use Rattle.ruby_own_locals.proofs.Lists.{or_assoc, or_false, or_swap, left_true, right_true, whole_chain}
+use Rattle.ruby_own_locals.proofs.Lists.{or_swap, left_true, right_true, whole_chain}
 use Rattle.ruby_own_locals.proofs.Meeting.{says_at, Alike, taken, settings, Sound}
 
 -- ---- lists that are alike
@@ -207,11 +206,13 @@ module _ (d e : ℕ) (l : d ≤ e) (m : d ≤ deepest) (below : Below d) where
     by false h = both a b
 
   set_then : {ds : Declared} {es : Events} (n : Name) (p : Pos) → Sets ds es → Sets ((n, p) ∷ ds) (sets n p es)
-  set_then {ds} {es} n p s = record { told = λ w. record {
-    params = (s.told w).params;
-    names = alike_append {a = (n, p) ∷ []} (alike_same refl) (s.told w).names;
-    sound = (s.told w).sound;
-  } }
+  set_then {ds} {es} n p s = record {
+    told = λ w. record {
+      params = (s.told w).params;
+      names = alike_append {a = (n, p) ∷ []} (alike_same refl) (s.told w).names;
+      sound = (s.told w).sound;
+    };
+  }
 
   rescued : (mark : Pos) (name : Option Name) → Sets (under mark name) (set_at mark name)
   rescued mark None = none
@@ -233,11 +234,13 @@ module _ (d e : ℕ) (l : d ≤ e) (m : d ≤ deepest) (below : Below d) where
   inner n = (below deepest m n).names
 
   take_then : {ps ds : Declared} {es : Events} (n : Name) (p : Pos) → Tells ps ds es → Tells ((n, p) ∷ ps) ds (takes n p es)
-  take_then n p s = record { told = λ w. record {
-    params = alike_append {a = (n, p) ∷ []} (alike_same refl) (s.told w).params;
-    names = (s.told w).names;
-    sound = (s.told w).sound;
-  } }
+  take_then n p s = record {
+    told = λ w. record {
+      params = alike_append {a = (n, p) ∷ []} (alike_same refl) (s.told w).params;
+      names = (s.told w).names;
+      sound = (s.told w).sound;
+    };
+  }
 
   tells_as : {ps ps' ds ds' : Declared} {es : Events} → ps' ≡ ps → ds' ≡ ds → Tells ps' ds' es → Tells ps ds es
   tells_as {ps} {ps'} {ds} {ds'} {es} p q t = subst (λ z. Tells z ds es) p (subst (λ z. Tells ps' z es) q t)
@@ -285,20 +288,29 @@ module _ (d e : ℕ) (l : d ≤ e) (m : d ≤ deepest) (below : Below d) where
   within start params n = tells_as (append-nil (parameter_places start params)) refl (tell_then (params_tell start params) (inner n))
 
   block_sets : (start : Pos) (params : Params) (n : Node) → Sets [] (in_block f start params n)
-  block_sets start params n = record { told = λ w.
-    let t = (within start params n).told (left_true _ true w) in
-    record { params = alike_same refl; names = alike_same refl; sound = (t.params, t.names, t.sound, tt) } }
+  block_sets start params n = record {
+    told = λ w.
+        let t = (within start params n).told (left_true _ true w) in
+        record { params = alike_same refl; names = alike_same refl; sound = (t.params, t.names, t.sound, tt) };
+  }
 
   method_sets : (params : Params) (n : Node) → Sets [] (in_method f params n)
-  method_sets params n = record { told = λ w.
-    let t = (within calls.start params n).told (left_true _ true w) in
-    record { params = alike_same refl; names = alike_same refl;
-        sound = (alike_trans (alike_same (append_assoc (parameter_places calls.start params) (declared_in_defaults params) (declared n))) (alike_append t.params t.names), t.sound, tt) } }
+  method_sets params n = record {
+    told = λ w.
+        let t = (within calls.start params n).told (left_true _ true w) in
+        record {
+          params = alike_same refl;
+          names = alike_same refl;
+          sound = (alike_trans (alike_same (append_assoc (parameter_places calls.start params) (declared_in_defaults params) (declared n))) (alike_append t.params t.names), t.sound, tt);
+        };
+  }
 
   body_sets : (n : Node) → Sets [] (apart (declared n) (f n).events end)
-  body_sets n = record { told = λ w.
-    let t = (inner n).told (left_true _ true w) in
-    record { params = alike_same refl; names = alike_same refl; sound = (alike_append t.params t.names, t.sound, tt) } }
+  body_sets n = record {
+    told = λ w.
+        let t = (inner n).told (left_true _ true w) in
+        record { params = alike_same refl; names = alike_same refl; sound = (alike_append t.params t.names, t.sound, tt) };
+  }
 
   called : (receiver : Option Node) (args : List Node) (o : Option Node) → Sets (names_in g receiver ++ all_names g args ++ names_in g o) (chain (chain (if_any f receiver) (all_of f args)) (if_any f o))
   called receiver args o = tell_then (tell_then (may receiver) (all args)) (may o)

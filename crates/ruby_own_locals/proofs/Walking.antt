@@ -1,7 +1,6 @@
 -- Scope's walk over a tree as it was parsed notes what the tree says, and what it makes says the same where nothing is refused.
-use denote.Hole.Carrier
 use Rattle.std.proofs.Common.{◌≡◌, ℕ, zero, suc, Bool, true, false, not, ◌&&◌, ◌||◌, cond, List, [], ◌∷◌, ◌++◌, map, Option, None, Some, refl, sym, ap, ◌∙◌, subst, append-nil}
-use Rattle.std.specs.Prelude.{is_none, is_some, bytes_eq}
+use Rattle.std.specs.Prelude.{is_none, is_some}
 use Rattle.std.specs.Option.{option_map}
 use Rattle.std.proofs.lemmas.Bool.{false≢true}
 use Rattle.std.proofs.lemmas.Slice.Eq.{bytes_eq-Decides}
@@ -13,7 +12,6 @@ use Rattle.ruby_meaning.specs.declared.construct.Construct.{Construct}
 use Rattle.ruby_meaning.specs.declared.scope.Role.{Role}
 use Rattle.ruby_meaning.specs.declared.scope.Role.TheVariants as role
 use Rattle.ruby_meaning.specs.declared.scope.Seen.{Seen}
-use Rattle.ruby_meaning.specs.declared.tree.Base.TheBlock
 use Rattle.ruby_meaning.specs.declared.tree.Base.{Base, out-Base, roll-Base, out-roll-Base}
 use Rattle.ruby_meaning.specs.declared.tree.Base.TheFolds.{ind-Node, fold-roll-Base, fold-roll-Kind, fold-roll-ModuleForm, fold-roll-Node, fold-roll-Params, map-Base, map-Kind, map-ModuleForm, map-Params}
 use Rattle.ruby_meaning.specs.declared.tree.Base.TheOpen.{Base-F, Kind-F, ModuleForm-F, Node-F, Params-F}
@@ -29,7 +27,7 @@ use Rattle.ruby_meaning.specs.declared.tree.Rest.TheVariants as rest
 use Rattle.ruby_meaning.specs.declared.tree.Slot.{Slot}
 use Rattle.ruby_meaning.specs.declared.tree.Slot.TheVariants as slot
 use Rattle.ruby_meaning.specs.Scoping.Names.{Name, has, with_name}
-use Rattle.ruby_meaning.specs.Scoping.Seen.{stands_before, outside, refuse_if, unbuilt_at, is_local, name_local, parameter, called, opened, block_closed, body_closed}
+use Rattle.ruby_meaning.specs.Scoping.Seen.{stands_before, outside, refuse_if, unbuilt_at, is_local, name_local, parameter, opened}
 use Rattle.ruby_meaning.specs.Scoping.Walk.{Walked, walked, Walk, Part, FormPart, BasePart, plain, as_role, is_shown, is_target, is_condition, within_def, within_block, within_lambda, within_loop, within_rescue, no_targets, all, if_any, all_if_any, in_turn, names_in_turn, defaults_in_turn, guarded, guarded_two, branches, operator_name, setter, called_if_any, refuse_marked, is_require, is_relative, text_or_empty, only_text, requires_file, noted, noted_require, noted_call, only_name, resolved_call, call, bare_local, local_or, one_slot, slots, rest_name, block_name, rescued, of_base, of_kind, of_form, of_node, of_params, part, form_part, base_part, module_part, params_part}
 use Rattle.ruby_meaning.specs.Scoping.Walk as walk
 use Rattle.ruby_evaluation.specs.Locals.{Declared, behind_all}
@@ -40,7 +38,7 @@ use Rattle.ruby_own_locals.specs.Law.{is_whole}
 use Rattle.ruby_own_locals.proofs.Lists.{left_true, right_true, whole_chain, set_name, owns_in, erase}
 use Rattle.ruby_own_locals.proofs.Lists as lists
 use Rattle.ruby_own_locals.proofs.Meeting.{has_with, same_self}
-use Rattle.ruby_own_locals.proofs.Steps.{not_earlier, owns, Stepped, Steps, Quiet, steps_then, quiet_then, quiet_self, quiet_quiet, stays, quiet_steps, never, refused, of_unbuilt, of_called, of_called_if_any, of_marked, local_quiet, names_one, takes_one, block_steps, body_steps}
+use Rattle.ruby_own_locals.proofs.Steps.{not_earlier, owns, Steps, Quiet, steps_then, quiet_then, quiet_self, quiet_quiet, stays, quiet_steps, never, refused, of_unbuilt, of_called, of_called_if_any, of_marked, local_quiet, names_one, takes_one, block_steps, body_steps}
 
 -- ---- a node that is walked
 
@@ -309,18 +307,20 @@ module _ (d : ℕ) where
     by false false h i = ap (λ b. cond b (with_name own x) (cond (outside outer x) (with_name own x) (with_name (with_name own x) x))) (has_self own x)
 
   again : (z u : Seen) (x : Name) (p : Pos) (r ms : Events) → Steps (name_local x z) u ms (sets x p r) → Steps z u ms (sets x p r)
-  again z u x p r ms y = record { by = λ w.
-    let h = y.by w in
-    let t = name_local x z in
-    let n = (names_one x p z).by refl in
-    record {
-      own = h.own ∙ ap (λ o. lists.noted o (set_name o t.own x) r) n.outer ∙ ap (λ l. lists.noted z.outer (set_name z.outer l x) r) n.own ∙ ap (λ l. lists.noted z.outer l r) (set_twice z.outer z.own x);
-      outer = h.outer ∙ n.outer;
-      scopes = h.scopes ∙ ap (λ l. l ++ owns_in t.outer (set_name t.outer t.own x) r) (n.scopes ∙ append-nil (owns z.scopes)) ∙ ap (λ o. owns z.scopes ++ owns_in o (set_name o t.own x) r) n.outer
-          ∙ ap (λ l. owns z.scopes ++ owns_in z.outer (set_name z.outer l x) r) n.own ∙ ap (λ l. owns z.scopes ++ owns_in z.outer l r) (set_twice z.outer z.own x);
-      keeps = λ e. n.keeps (h.keeps e);
-      same = h.same;
-    } }
+  again z u x p r ms y = record {
+    by = λ w.
+        let h = y.by w in
+        let t = name_local x z in
+        let n = (names_one x p z).by refl in
+        record {
+          own = h.own ∙ ap (λ o. lists.noted o (set_name o t.own x) r) n.outer ∙ ap (λ l. lists.noted z.outer (set_name z.outer l x) r) n.own ∙ ap (λ l. lists.noted z.outer l r) (set_twice z.outer z.own x);
+          outer = h.outer ∙ n.outer;
+          scopes = h.scopes ∙ ap (λ l. l ++ owns_in t.outer (set_name t.outer t.own x) r) (n.scopes ∙ append-nil (owns z.scopes)) ∙ ap (λ o. owns z.scopes ++ owns_in o (set_name o t.own x) r) n.outer
+              ∙ ap (λ l. owns z.scopes ++ owns_in z.outer (set_name z.outer l x) r) n.own ∙ ap (λ l. owns z.scopes ++ owns_in z.outer l r) (set_twice z.outer z.own x);
+          keeps = λ e. n.keeps (h.keeps e);
+          same = h.same;
+        };
+  }
 
   joined_steps : (s t u : Seen) (ma mb a b : Read) → Meets s t ma a → Meets t u mb b → Steps s u (joined ma mb) (joined a b)
   joined_steps s t u ma mb a b x y = by (same_name a.reads b.sets) refl where
@@ -396,6 +396,7 @@ require_says d o name (p ∷ (q ∷ qs)) r w = absurd (false≢true r)
 require_says d None name (p ∷ []) r w = by (part None p.0).text refl r where
   e : Events
   e = (read odd d p.0).events
+
   by : (t : Option Name) → (part None p.0).text ≡ t → requires_file None name t true ≡ true → chain (chain (read odd d p.0).events end) end ≡ end
   by None f r = absurd (false≢true r)
   by (Some t) f r = ap (λ z. chain (chain z end) end) (text_says d p (Some t) f refl

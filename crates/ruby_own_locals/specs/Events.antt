@@ -1,6 +1,6 @@
 -- What a text says of its locals, in the order of the text: the parameters that a scope takes, the names that it sets, and
 -- the scopes that begin in it.
-use Rattle.std.specs.Prelude.{ℕ, zero, suc, Bool, true, false, ◌&&◌, if◌then◌else◌, List, [], ◌∷◌, ◌++◌, Option, Some, None, bytes_eq}
+use Rattle.std.specs.Prelude.{ℕ, zero, suc, Bool, true, false, if◌then◌else◌, List, [], ◌∷◌, ◌++◌, Option, Some, None, bytes_eq}
 use Rattle.opal_base.specs.declared.place.Pos.{Pos}
 use Rattle.ruby_meaning.specs.declared.tree.Base.{Base, out-Base}
 use Rattle.ruby_meaning.specs.declared.tree.Base.TheOpen.{Base-F, Kind-F, ModuleForm-F, Params-F}

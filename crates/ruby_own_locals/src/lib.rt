@@ -1,4 +1,4 @@
-//! A tie between places: the locals of each scope.
+//! A tie between places: the locals that Ruby's evaluation finds in a text are those that scope lists.
 #![tactic(auto)]
 
 mod laws;
