@@ -4,3 +4,4 @@ mod Telling
 mod Steps
 mod Walking
 mod OwnScopes
+mod Example
