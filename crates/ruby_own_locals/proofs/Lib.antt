@@ -1,0 +1,7 @@
+mod Lists
+mod Meeting
+mod Telling
+mod Steps
+mod Walking
+mod OwnScopes
+mod Example
