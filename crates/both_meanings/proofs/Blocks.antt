@@ -28,14 +28,12 @@ use Rattle.both_meanings.specs.Follows.{Follows}
 use Rattle.both_meanings.specs.Holds.{Site, Scheme, FrameHolds, Holds}
 use Rattle.both_meanings.specs.Simulates.{Answers, a_raise, a_return, a_break, Called, Simulates}
 use Rattle.both_meanings.specs.Code.{no_parts, IsBlock}
+use Rattle.both_meanings.proofs.Basics.{some_same, true_false, chosen}
 use Rattle.both_meanings.proofs.Bind.{follows_outcome}
 use Rattle.both_meanings.proofs.Growing.{value_grows, sees_grows, modules_grow, home_grows, sees_local_grows}
-use Rattle.both_meanings.proofs.Entering.{chosen, some_same, sees_around, modules_around, home_around}
+use Rattle.both_meanings.proofs.Entering.{sees_around, modules_around, home_around}
 use Rattle.both_meanings.proofs.Bodies.{Finishes}
 use Rattle.both_meanings.proofs.Functions.{FrameRest, f, sh1, w2, grows2, shaped2, outer2, scope_below, free2, function_follows}
-
-true_false : true ≡ false → ⊥
-true_false e = cc
 
 -- ---- the end
 

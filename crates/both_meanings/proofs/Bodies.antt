@@ -29,15 +29,13 @@ use Rattle.both_meanings.specs.Carries.{Carries}
 use Rattle.both_meanings.specs.Follows.{Follows}
 use Rattle.both_meanings.specs.Holds.{Site, Scheme, value_of, Holds}
 use Rattle.both_meanings.specs.Simulates.{Here, RecordsStay, KeptAll, Later, Answers, a_value, Matches, m_value, m_thrown, m_break, m_continue, m_next, m_return, Good, Called, Below, Simulates}
+use Rattle.both_meanings.proofs.Basics.{none_some}
 use Rattle.both_meanings.proofs.Meeting.{met_none}
 use Rattle.both_meanings.proofs.Bind.{after, follows_end, follows_task, follows_then}
 use Rattle.both_meanings.proofs.Growing.{var_grows}
 use Rattle.both_meanings.proofs.Records.{bound_is, var_binds}
 use Rattle.both_meanings.proofs.Holding.{NoToken, holds_closed, closed_other, closed_frames}
 use Rattle.both_meanings.proofs.Laters.{later_ruby, later_trans, stay_trans}
-
-none_some : {A : Type 0} (x : A) → None ≡ Some x → ⊥
-none_some x e = cc
 
 -- how a body's result becomes that of the call
 pub record Finishes (w : World) (p : Place) (site : Site) (end : Result → Result) : Type 0 where

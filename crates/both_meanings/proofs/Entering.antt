@@ -1,7 +1,6 @@
 -- A function is entered: the world grows by its record, and by the frame that Ruby's side has then.
-use Rattle.std.proofs.Common.{◌≡◌, ⊎_elim, ℕ, suc, ◌<◌, Bool, true, false, if◌then◌else◌, List, [], ◌∷◌, ◌++◌, length, Option, Some, None, refl, sym, ap, ◌∙◌, subst, arith}
+use Rattle.std.proofs.Common.{◌≡◌, ⊎_elim, ℕ, suc, ◌<◌, false, if◌then◌else◌, List, [], ◌∷◌, ◌++◌, length, Option, Some, None, refl, sym, ap, ◌∙◌, subst, arith}
 use Rattle.std.specs.Prelude.{◌==◌}
-use Rattle.std.proofs.lemmas.Bool.{eq-eqb, eqb-true}
 use Rattle.std.proofs.lemmas.List.{length-append, get_or_append_left, get_or_push}
 use Rattle.es5_tree.specs.Values.{Text, Val, Truth, Obj, find_own}
 use Rattle.es5_evaluation.specs.State.{Activation, record_at, value_in}
@@ -13,27 +12,9 @@ use Rattle.both_meanings.specs.Names.{local, home_name, module_name, IsFrameName
 use Rattle.both_meanings.specs.World.{Shape, shape_of, Framed, OfFrame, OfCall, Role, Token, Carrier, Listed, World, Grows, IsValue, bound_in, bound_around, Sees, SeesModule, SeesModules, SeesHome}
 use Rattle.both_meanings.specs.Holds.{Scheme, Shapes, Serves, FrameHolds, ObjectsHold, Holds}
 use Rattle.both_meanings.specs.Simulates.{Later}
+use Rattle.both_meanings.proofs.Basics.{some_same, same_or_not, chosen, passed}
 use Rattle.both_meanings.proofs.Growing.{grows_trans, value_grows, sees_grows, modules_grow, home_grows, frame_is_grows, is_entry_grows}
-use Rattle.both_meanings.proofs.Records.{same_or_not}
 use Rattle.both_meanings.proofs.Holding.{carries_same}
-
--- ---- a map with one more
-
-pub chosen : {A : Type 0} (a b : ℕ) (x y : A) → a ≡ b → (if a == b then x else y) ≡ x
-chosen a b x y e = ap (λ c. if c then x else y) (eq-eqb a b e)
-
-not_equal : (a b : ℕ) → (a ≡ b → ⊥) → (a == b) ≡ false
-not_equal a b n = by (a == b) refl
-  where
-    by : (c : Bool) → (a == b) ≡ c → (a == b) ≡ false
-    by true e = absurd (n (eqb-true a b e))
-    by false e = e
-
-pub passed : {A : Type 0} (a b : ℕ) (x y : A) → (a ≡ b → ⊥) → (if a == b then x else y) ≡ y
-passed a b x y n = ap (λ c. if c then x else y) (not_equal a b n)
-
-pub some_same : {A : Type 0} (x y : A) → Some x ≡ Some y → x ≡ y
-some_same x y e = cc
 
 -- ---- a new record and a new frame
 

@@ -35,12 +35,13 @@ use Rattle.both_meanings.specs.Follows.{Follows}
 use Rattle.both_meanings.specs.Holds.{Scheme, FrameHolds, Holds}
 use Rattle.both_meanings.specs.Simulates.{Here, Called, Simulates}
 use Rattle.both_meanings.specs.Code.{IsText}
+use Rattle.both_meanings.proofs.Basics.{some_same, none_some, true_or_false, chosen}
 use Rattle.both_meanings.proofs.Bind.{follows_quiet}
 use Rattle.both_meanings.proofs.Growing.{value_grows, sees_grows, binds_grows}
 use Rattle.both_meanings.proofs.NamesDiffer.{frame_name, no_local}
-use Rattle.both_meanings.proofs.Records.{true_or_false, bound_is}
+use Rattle.both_meanings.proofs.Records.{bound_is}
 use Rattle.both_meanings.proofs.Holding.{NoToken}
-use Rattle.both_meanings.proofs.Entering.{chosen, some_same, record_kept, frame_new, entered, entered_grows, entered_later, entered_holds, entered_shapes, sees_around}
+use Rattle.both_meanings.proofs.Entering.{record_kept, frame_new, entered, entered_grows, entered_later, entered_holds, entered_shapes, sees_around}
 use Rattle.both_meanings.proofs.Bodies.{Finishes, Began, body_follows}
 use Rattle.both_meanings.proofs.Starting.{Prepared, prepares, enters_function, last_at}
 
@@ -66,9 +67,6 @@ nil_at (p ∷ vs) y v i e = ⊎_elim
     (true_or_false (bytes_eq y p.0))
 
 -- ---- the record of the call
-
-none_some : {A : Type 0} (x : A) → None ≡ Some x → ⊥
-none_some x e = cc
 
 -- what names stand for in it
 abbrev pub of_call : values.Val → Text → values.Val → Text → Option values.Val

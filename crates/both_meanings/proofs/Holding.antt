@@ -1,5 +1,5 @@
 -- What the steps of both sides leave of how their states stand to each other.
-use Rattle.std.proofs.Common.{◌≡◌, ⊎_elim, ℕ, ◌<◌, ◌≤◌, false, List, [], ◌∷◌, length, Some, refl, sym, ap, ◌∙◌, subst, arith}
+use Rattle.std.proofs.Common.{◌≡◌, ⊎_elim, ℕ, ◌<◌, ◌≤◌, false, List, ◌∷◌, length, Some, refl, sym, ap, ◌∙◌, subst, arith}
 use Rattle.std.proofs.lemmas.List.{length-set, get_or-set_same, get_or-set_other}
 use Rattle.es5_tree.specs.Values.{Text, Val, Truth}
 use Rattle.opal_base.specs.Shown.{Wrote}
@@ -14,29 +14,15 @@ use Rattle.both_meanings.specs.Carries.{Heap, CarriesHeap}
 use Rattle.both_meanings.specs.World.{OfFrame, OfCall, Role, Token, Carrier, Listed, World, Var}
 use Rattle.both_meanings.specs.Holds.{Scheme, Serves, FrameHolds, RecordsHold, IsProc, ObjectsHold, Holds}
 use Rattle.both_meanings.specs.Simulates.{Kept}
+use Rattle.both_meanings.proofs.Basics.{same_or_not}
 use Rattle.both_meanings.proofs.NamesDiffer.{temps_differ, local_temp, no_temp}
-use Rattle.both_meanings.proofs.Records.{wrote, var_within, same_or_not, shapes_wrote, length_wrote, value_other, value_elsewhere, in_other}
+use Rattle.both_meanings.proofs.Records.{wrote, var_within, shapes_wrote, length_wrote, value_other, value_elsewhere, in_other}
 
 -- ---- only the heap of Ruby's side counts for what carries it
 
--- a state with nothing but its heap
-abbrev bare : List Thing → Ruby
-bare hs = record { heap = hs; globals = []; library = []; required = []; frames = []; calls = []; input = [] }
-
-to_bare : (called : List Name) (r : Ruby) (h : Heap) → CarriesHeap called r h → CarriesHeap called (bare r.heap) h
-to_bare called r h c = record {
-  one = c.one;
-  only = c.only;
-  forms = c.forms;
-  chains = c.chains;
-  tables = λ M m p. let s = c.tables M m p in record { value = s.value; same = s.same; fits = s.fits };
-  found = c.found;
-  missed = c.missed;
-  variables = c.variables;
-}
-
-from_bare : (called : List Name) (r : Ruby) (h : Heap) → CarriesHeap called (bare r.heap) h → CarriesHeap called r h
-from_bare called r h c = record {
+-- all else may be another
+other : (called : List Name) (hs : List Thing) (x y : Ruby) (h : Heap) → CarriesHeap called (record x { heap = hs }) h → CarriesHeap called (record y { heap = hs }) h
+other called hs x y h c = record {
   one = c.one;
   only = c.only;
   forms = c.forms;
@@ -48,7 +34,7 @@ from_bare called r h c = record {
 }
 
 pub carries_same : (called : List Name) (r r1 : Ruby) (h : Heap) → r1.heap ≡ r.heap → CarriesHeap called r h → CarriesHeap called r1 h
-carries_same called r r1 h e c = from_bare called r1 h (subst (λ hs. CarriesHeap called (bare hs) h) (sym e) (to_bare called r h c))
+carries_same called r r1 h e c = subst (λ hs. CarriesHeap called (record r1 { heap = hs }) h) (sym e) (other called r.heap r r1 h c)
 
 -- ---- a temporary is written
 

@@ -1,5 +1,5 @@
 -- A jump to the token of a call ends there, and any other result goes on; the token is closed.
-use Rattle.std.proofs.Common.{◌≡◌, ⊎_elim, ℕ, zero, suc, ◌+◌, ◌<◌, false, length, Some, None, refl, sym, ap, ◌∙◌, subst, arith}
+use Rattle.std.proofs.Common.{◌≡◌, ⊎_elim, ℕ, zero, suc, ◌+◌, ◌<◌, false, length, Some, refl, sym, ap, ◌∙◌, subst, arith}
 use Rattle.std.proofs.lemmas.List.{length-set}
 use Rattle.es5_tree.specs.Values.{Text, Truth, Obj, first, find_own}
 use Rattle.es5_tree.specs.Values as values
@@ -21,10 +21,9 @@ use Rattle.both_meanings.specs.Follows.{Follows}
 use Rattle.both_meanings.specs.Holds.{Scheme, open_name, token_name, value_name, Holds}
 use Rattle.both_meanings.specs.Simulates.{RecordsStay, KeptAll, Later, Answers, a_value, a_raise, a_return, a_break, Called}
 use Rattle.both_meanings.specs.Code.{closed_with, Since, Closes, Lands}
+use Rattle.both_meanings.proofs.Basics.{none_some, same_or_not, chosen, passed}
 use Rattle.both_meanings.proofs.Meeting.{met_none}
 use Rattle.both_meanings.proofs.Bind.{after, follows_then, follows_end, follows_outcome}
-use Rattle.both_meanings.proofs.Records.{same_or_not}
-use Rattle.both_meanings.proofs.Entering.{chosen, passed}
 use Rattle.both_meanings.proofs.Laters.{later_trans, later_ruby}
 use Rattle.both_meanings.proofs.Alike.{records_alike}
 use Rattle.both_meanings.proofs.Tokens.{holds_call_closed, cell_other}
@@ -54,9 +53,6 @@ call_is m n e = cc
 
 object_is : (a b : ℕ) → Some (Obj a) ≡ Some (Obj b) → a ≡ b
 object_is a b e = cc
-
-none_some : (v : values.Val) → None ≡ Some v → ⊥
-none_some v e = cc
 
 module _ {T : Scheme} {w0 : World} {before : State} {s0 : es.State} (h0 : Holds T w0 before s0) {w : World} {st : State} {s : es.State} (n o : ℕ) (is : w.role o ≡ Some (Token (OfCall n))) (later : Later w0 before.ruby w st.ruby) (stay : RecordsStay s0.records s.records) (kept : KeptAll w0 s0 s) where
   -- the state behind, where the token is closed

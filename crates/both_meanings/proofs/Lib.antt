@@ -1,3 +1,4 @@
+pub mod Basics
 pub mod Meeting
 pub mod Bind
 pub mod Walking

@@ -17,11 +17,11 @@ use Rattle.both_meanings.specs.Names as names
 use Rattle.both_meanings.specs.World.{Shape, stands, bound_in, Framed, OfFrame, OfCall, Role, Token, Carrier, Listed, World, IsValue, Binds, bound_here, bound_around, Var, Behind, next, over, SeesLocal, own_local, outer_local}
 use Rattle.both_meanings.specs.Holds.{Scheme, Serves, variable_at, FrameHolds, RecordsHold, IsProc, Holds}
 use Rattle.both_meanings.specs.Simulates.{RecordsStay, Kept, Later}
-use Rattle.both_meanings.proofs.Records.{true_or_false, same_or_not, wrote, length_wrote, value_wrote, value_other, value_elsewhere, in_other, shapes_wrote, shape_wrote, has_var, var_within}
+use Rattle.both_meanings.proofs.Basics.{some_same, true_or_false, same_or_not, head_is, tail_is, false_true}
+use Rattle.both_meanings.proofs.Records.{wrote, length_wrote, value_wrote, value_other, value_elsewhere, in_other, shapes_wrote, shape_wrote, has_var, var_within}
 use Rattle.both_meanings.proofs.NamesDiffer.{no_local, local_temp}
 use Rattle.both_meanings.proofs.Growing.{grows_refl}
 use Rattle.both_meanings.proofs.Holding.{carries_same}
-use Rattle.both_meanings.proofs.Entering.{some_same}
 
 -- ---- names of locals differ where the locals do
 
@@ -48,12 +48,6 @@ hex_same a b e = ⊎_elim
 digits_same : (u v : ℕ) → u / 4096 ≡ v / 4096 → u / 256 % 16 ≡ v / 256 % 16 → u / 16 % 16 ≡ v / 16 % 16 → u % 16 ≡ v % 16 → u ≡ v
 digits_same u v a b c d = omega (arith, a, b, c, d)
 
-first_is : (a b : ℕ) (x y : List ℕ) → a ∷ x ≡ b ∷ y → a ≡ b
-first_is a b x y e = cc
-
-rest_is : (a b : ℕ) (x y : List ℕ) → a ∷ x ≡ b ∷ y → x ≡ y
-rest_is a b x y e = cc
-
 not_empty : (a : ℕ) (x : List ℕ) → a ∷ x ≡ [] → ⊥
 not_empty a x e = cc
 
@@ -71,19 +65,19 @@ spelled_same : (u v : ℕ) (a b : List ℕ) → spelled u ++ a ≡ spelled v ++ 
 spelled_same u v a b e = ⊎_elim
     (λ (i : is_plain u ≡ true).
     ⊎_elim
-    (λ (j : is_plain v ≡ true). let q : u ∷ a ≡ v ∷ b = sym (ap (λ l. l ++ a) (plain_spelled u i)) ∙ e ∙ ap (λ l. l ++ b) (plain_spelled v j) in (first_is u v a b q, rest_is u v a b q))
-    (λ (j : is_plain v ≡ false). let q : u ∷ a ≡ 36 ∷ (hex (v / 4096) ∷ hex (v / 256 % 16) ∷ hex (v / 16 % 16) ∷ hex (v % 16) ∷ b) = sym (ap (λ l. l ++ a) (plain_spelled u i)) ∙ e ∙ ap (λ l. l ++ b) (other_spelled v j) in absurd (no_dollar u i (first_is u 36 a _ q)))
+    (λ (j : is_plain v ≡ true). let q : u ∷ a ≡ v ∷ b = sym (ap (λ l. l ++ a) (plain_spelled u i)) ∙ e ∙ ap (λ l. l ++ b) (plain_spelled v j) in (head_is u v a b q, tail_is u v a b q))
+    (λ (j : is_plain v ≡ false). let q : u ∷ a ≡ 36 ∷ (hex (v / 4096) ∷ hex (v / 256 % 16) ∷ hex (v / 16 % 16) ∷ hex (v % 16) ∷ b) = sym (ap (λ l. l ++ a) (plain_spelled u i)) ∙ e ∙ ap (λ l. l ++ b) (other_spelled v j) in absurd (no_dollar u i (head_is u 36 a _ q)))
     (true_or_false (is_plain v)))
     (λ (i : is_plain u ≡ false).
     ⊎_elim
-    (λ (j : is_plain v ≡ true). let q : 36 ∷ (hex (u / 4096) ∷ hex (u / 256 % 16) ∷ hex (u / 16 % 16) ∷ hex (u % 16) ∷ a) ≡ v ∷ b = sym (ap (λ l. l ++ a) (other_spelled u i)) ∙ e ∙ ap (λ l. l ++ b) (plain_spelled v j) in absurd (no_dollar v j (sym (first_is 36 v _ b q))))
+    (λ (j : is_plain v ≡ true). let q : 36 ∷ (hex (u / 4096) ∷ hex (u / 256 % 16) ∷ hex (u / 16 % 16) ∷ hex (u % 16) ∷ a) ≡ v ∷ b = sym (ap (λ l. l ++ a) (other_spelled u i)) ∙ e ∙ ap (λ l. l ++ b) (plain_spelled v j) in absurd (no_dollar v j (sym (head_is 36 v _ b q))))
     (λ (j : is_plain v ≡ false).
     let q : 36 ∷ (hex (u / 4096) ∷ hex (u / 256 % 16) ∷ hex (u / 16 % 16) ∷ hex (u % 16) ∷ a) ≡ 36 ∷ (hex (v / 4096) ∷ hex (v / 256 % 16) ∷ hex (v / 16 % 16) ∷ hex (v % 16) ∷ b) = sym (ap (λ l. l ++ a) (other_spelled u i)) ∙ e ∙ ap (λ l. l ++ b) (other_spelled v j) in
-    let q1 = rest_is 36 36 _ _ q in
-    let q2 = rest_is _ _ _ _ q1 in
-    let q3 = rest_is _ _ _ _ q2 in
-    let q4 = rest_is _ _ _ _ q3 in
-    (digits_same u v (hex_same _ _ (first_is _ _ _ _ q1)) (hex_same _ _ (first_is _ _ _ _ q2)) (hex_same _ _ (first_is _ _ _ _ q3)) (hex_same _ _ (first_is _ _ _ _ q4)), rest_is _ _ _ _ q4))
+    let q1 = tail_is 36 36 _ _ q in
+    let q2 = tail_is _ _ _ _ q1 in
+    let q3 = tail_is _ _ _ _ q2 in
+    let q4 = tail_is _ _ _ _ q3 in
+    (digits_same u v (hex_same _ _ (head_is _ _ _ _ q1)) (hex_same _ _ (head_is _ _ _ _ q2)) (hex_same _ _ (head_is _ _ _ _ q3)) (hex_same _ _ (head_is _ _ _ _ q4)), tail_is _ _ _ _ q4))
     (true_or_false (is_plain v)))
     (true_or_false (is_plain u))
 
@@ -100,10 +94,7 @@ units_same (u ∷ x) [] e = absurd (never_empty u (flat_map spelled x) e)
 units_same (u ∷ x) (v ∷ y) e = let q = spelled_same u v (flat_map spelled x) (flat_map spelled y) e in ap (λ n. n ∷ x) q.0 ∙ ap (λ l. v ∷ l) (units_same x y q.1)
 
 pub locals_same : (x y : Name) → names.local x ≡ names.local y → x ≡ y
-locals_same x y e = units_same x y (rest_is 36 36 _ _ (rest_is 108 108 _ _ e))
-
-false_true : false ≡ true → ⊥
-false_true e = cc
+locals_same x y e = units_same x y (tail_is 36 36 _ _ (tail_is 108 108 _ _ e))
 
 -- ---- the frame that holds a local
 

@@ -1,5 +1,5 @@
 -- A call of a method that takes no parameters: the function that stands for it follows what Ruby's side does.
-use Rattle.std.proofs.Common.{◌≡◌, ℕ, ◌<◌, ◌≤◌, true, false, [], ◌∷◌, length, Some, None, refl, sym, ap, ◌∙◌, subst}
+use Rattle.std.proofs.Common.{◌≡◌, ℕ, ◌<◌, ◌≤◌, true, false, [], ◌∷◌, length, Some, refl, sym, ap, ◌∙◌, subst}
 use Rattle.std.specs.Prelude.{if◌then◌else◌}
 use Rattle.opal_base.specs.declared.place.Pos.{Pos}
 use Rattle.ruby_meaning.specs.declared.tree.Params.{out-Params}
@@ -26,15 +26,13 @@ use Rattle.both_meanings.specs.Follows.{Follows}
 use Rattle.both_meanings.specs.Holds.{Site, Scheme, Holds}
 use Rattle.both_meanings.specs.Simulates.{Answers, a_raise, a_return, a_break, Called, Simulates}
 use Rattle.both_meanings.specs.Code.{no_parts, IsMethod}
+use Rattle.both_meanings.proofs.Basics.{none_some, chosen, passed}
 use Rattle.both_meanings.proofs.Bind.{follows_outcome}
 use Rattle.both_meanings.proofs.Growing.{value_grows, modules_grow, module_grows}
 use Rattle.both_meanings.proofs.Holding.{NoToken}
-use Rattle.both_meanings.proofs.Entering.{chosen, passed, module_around, modules_around}
+use Rattle.both_meanings.proofs.Entering.{module_around, modules_around}
 use Rattle.both_meanings.proofs.Bodies.{Finishes}
 use Rattle.both_meanings.proofs.Functions.{FrameRest, f, sh1, w2, grows2, shaped2, outer2, scope_below, free2, sees_first, function_follows}
-
-none_some : {A : Type 0} (x : A) → None ≡ Some x → ⊥
-none_some x e = cc
 
 -- ---- the end
 

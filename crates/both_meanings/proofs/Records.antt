@@ -1,5 +1,5 @@
 -- What a name is bound to, and what a write to a variable leaves, where both sides' states are tied by a world.
-use Rattle.std.proofs.Common.{◌≡◌, ◌⊎◌, inl, inr, ⊎_elim, ℕ, zero, suc, ◌<◌, ◌||◌, Bool, true, false, List, [], ◌∷◌, length, map, Some, refl, sym, ap, ◌∙◌, subst, arith}
+use Rattle.std.proofs.Common.{◌≡◌, ⊎_elim, ℕ, zero, suc, ◌<◌, ◌||◌, true, false, List, [], ◌∷◌, length, map, Some, refl, sym, ap, ◌∙◌, subst, arith}
 use Rattle.std.specs.Prelude.{is_some, bytes_eq}
 use Rattle.std.proofs.lemmas.List.{length-set, get_or-set_same, get_or-set_other}
 use Rattle.es5_tree.specs.Values.{Text, Val, find_own}
@@ -9,16 +9,7 @@ use Rattle.es5_evaluation.specs.State.{Activation, State, record_at, binds, bind
 use Rattle.es5_evaluation.specs.Task.{with_stored}
 use Rattle.both_meanings.specs.World.{Shape, shape_of, stands, bound_in, World, Binds, bound_here, bound_around, Var}
 use Rattle.both_meanings.specs.Holds.{Shapes, value_of}
-
-pub true_or_false : (a : Bool) → (a ≡ true) ⊎ (a ≡ false)
-true_or_false true = inl refl
-true_or_false false = inr refl
-
-pub same_or_not : (q r : ℕ) → (q ≡ r) ⊎ (q ≡ r → ⊥)
-same_or_not zero zero = inl refl
-same_or_not zero (suc r) = inr (λ e. absurd (omega (arith, e)))
-same_or_not (suc q) zero = inr (λ e. absurd (omega (arith, e)))
-same_or_not (suc q) (suc r) = ⊎_elim (λ e. inl (ap suc e)) (λ n. inr (λ e. n (omega (arith, e)))) (same_or_not q r)
+use Rattle.both_meanings.proofs.Basics.{true_or_false, same_or_not}
 
 -- ---- the names of a record decide what it binds
 

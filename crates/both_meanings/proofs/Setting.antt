@@ -39,17 +39,14 @@ use Rattle.both_meanings.specs.Holds.{Site, Scheme, value_of, Holds}
 use Rattle.both_meanings.specs.Simulates.{Here, m_next, m_return, Good, Below, place_of, Simulates}
 use Rattle.both_meanings.specs.Code.{Sets}
 use Rattle.both_meanings.specs.Small.{CodeOf, of_int, of_self, of_next, of_return, IsCode, small, SmallSimulates}
+use Rattle.both_meanings.proofs.Basics.{some_same, none_some}
 use Rattle.both_meanings.proofs.Meeting.{met_none}
 use Rattle.both_meanings.proofs.Bind.{follows_end, follows_outcome, follows_starves, follows_task}
 use Rattle.both_meanings.proofs.Records.{bound_is}
 use Rattle.both_meanings.proofs.Holding.{kept_refl}
-use Rattle.both_meanings.proofs.Entering.{some_same}
 use Rattle.both_meanings.proofs.Laters.{later_refl, stay_refl}
 use Rattle.both_meanings.proofs.Bodies.{reads_temp}
 use Rattle.both_meanings.proofs.Parts.{begins, part, leaf}
-
-none_some : {A : Type 0} (x : A) → None ≡ Some x → ⊥
-none_some x e = cc
 
 -- ---- code is never empty
 

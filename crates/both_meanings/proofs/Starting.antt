@@ -26,8 +26,9 @@ use Rattle.ruby_evaluation.specs.Tables.{Name}
 use Rattle.both_meanings.specs.Names.{local, self_name}
 use Rattle.both_meanings.specs.World.{Shape, shape_of, stands}
 use Rattle.both_meanings.specs.Code.{Inits, inits_none, inits_more, Prelude, prelude}
+use Rattle.both_meanings.proofs.Basics.{true_or_false, false_true}
 use Rattle.both_meanings.proofs.NamesDiffer.{frame_name, no_local}
-use Rattle.both_meanings.proofs.Records.{true_or_false, found_stands, same_names}
+use Rattle.both_meanings.proofs.Records.{found_stands, same_names}
 
 -- ---- the record is entered
 
@@ -64,9 +65,6 @@ does_last_var x e ρ s a m v at g i j =
     (does_var x e ρ (with_record s a) (with_record s a) ρ.innermost m v [] g i (ap (λ b. has_variable b x) here ∙ j))
 
 -- ---- the first statements
-
-false_true : false ≡ true → ⊥
-false_true e = cc
 
 shape_with : (a : Activation) (x : Text) (v : Val) → has_variable a x ≡ true → shape_of (with_variable a x v) ≡ shape_of a
 shape_with a x v h = ap (λ l. record { names = l; constants = a.constants; outer = a.outer }) (same_names a.variables x v (sym (found_stands a.variables x) ∙ h))

@@ -1,27 +1,33 @@
 -- Whether a value is false or nil, as a script tests it and as Ruby does; and a choice by that.
-use Rattle.std.proofs.Common.{◌≡◌, ⊎_elim, ℕ, Bool, true, false, not, [], Some, refl, sym, ap, ◌∙◌}
+use Rattle.std.proofs.Common.{◌≡◌, ⊎_elim, ℕ, ◌<◌, Bool, true, false, not, [], ◌∷◌, Some, refl, sym, ap, ◌∙◌, arith}
 use Rattle.std.specs.Prelude.{nat_eq}
 use Rattle.std.proofs.lemmas.Bool.{eq-eqb, eqb-true}
 use Rattle.ruby_meaning.specs.declared.value.Value.{Value}
 use Rattle.es5_tree.specs.declared.tree.EsExpr.{EsExpr}
+use Rattle.es5_tree.specs.declared.tree.EsStmt.{EsStmt}
 use Rattle.es5_tree.specs.declared.tree.EsKind.TheVariants as kind
 use Rattle.es5_tree.specs.declared.tree.Operator.TheVariants as operator
 use Rattle.es5_tree.specs.Values.{Text, Val, Truth, Num, Str, Obj}
 use Rattle.es5_evaluation.specs.State as es
 use Rattle.es5_evaluation.specs.Task.{Scope}
+use Rattle.es5_evaluation.specs.Evaluate.{all}
 use Rattle.es5_evaluation.specs.Values.{Is, same}
 use Rattle.es5_rules.specs.Steps.{Gives}
 use Rattle.es5_rules.proofs.Expressions.{gives_name, gives_false, gives_binary, gives_or_true, gives_or_false}
 use Rattle.ruby_evaluation.specs.Exceptions.{truthy}
-use Rattle.ruby_evaluation.specs.Task.{State}
+use Rattle.ruby_evaluation.specs.Texts.{truth}
+use Rattle.ruby_evaluation.specs.Task.{Place, Eval, State, gives, walk}
 use Rattle.both_meanings.specs.Names.{temp}
-use Rattle.both_meanings.specs.Carries.{id_of}
+use Rattle.both_meanings.specs.Carries.{id_of, Carries}
 use Rattle.both_meanings.specs.World.{World, IsValue, is_nil, is_true, is_false, is_int, is_text, is_ref, Var, Sees}
-use Rattle.both_meanings.specs.Holds.{Scheme, value_of, Holds}
-use Rattle.both_meanings.specs.Code.{TestsFalse}
-use Rattle.both_meanings.proofs.Records.{true_or_false, bound_is}
+use Rattle.both_meanings.specs.Holds.{Site, Scheme, value_of, Holds}
+use Rattle.both_meanings.specs.Follows.{Follows}
+use Rattle.both_meanings.specs.Simulates.{Here, Good}
+use Rattle.both_meanings.specs.Code.{Sets, TestsFalse}
+use Rattle.both_meanings.proofs.Basics.{some_same, true_or_false}
+use Rattle.both_meanings.proofs.Records.{bound_is}
 use Rattle.both_meanings.proofs.Bodies.{reads_temp}
-use Rattle.both_meanings.proofs.Entering.{some_same}
+use Rattle.both_meanings.proofs.Parts.{leaf}
 
 -- nil's object is that of no other value
 pub nil_alone : {T : Scheme} {w : World} {st : State} {s : es.State} → Holds T w st s → (nil k o : ℕ) → w.object 0 ≡ Some nil → (k ≡ 0 → ⊥) → w.object k ≡ Some o → nat_eq o nil ≡ false
@@ -57,3 +63,14 @@ module _ {T : Scheme} {w : World} {st : State} {s : es.State} (h : Holds T w st 
   tests_false e i _ _ (is_int n) at = (_, second i (Num n) refl at false refl)
   tests_false e i _ _ (is_text x) at = (_, second i (Str x) refl at false refl)
   tests_false e i _ _ (is_ref k o n q) at = (_, second i (Obj o) refl at false (nil_alone h nil k o nil_is n q))
+
+truth_is : {w : World} (b : Bool) → IsValue w (truth b) (Truth b)
+truth_is true = is_true
+truth_is false = is_false
+
+-- `t = t === false || t === $$nil;` behind the value of a part, in any scheme
+pub not_put : {T : Scheme} {w : World} {p : Place} {site : Site} {st : State} {s : es.State} (ρ : Scope) → Here T w st.ruby p ρ.innermost site → Holds T w st s → (t nil : ℕ) (name : Text) → t < site.top → w.object 0 ≡ Some nil → T.texts.names name (Obj nil) → (f : Eval) (n : ℕ) (ts : EsStmt) (e : EsExpr) (v : Value) (u : Val) → Sets ts t e → TestsFalse e t name → value_of s ρ.innermost (temp t) ≡ Some u → IsValue w v u
+    → Follows (Carries T.called) st.calls n 120 (walk f (gives (truth (not (truthy v)))) st n) (all (ts ∷ []) ρ) s (Good T w p ρ.innermost site t st s)
+not_put ρ here holds t nil name room zero named f n ts e v u sets tests at vu =
+    let r = tests_false holds ρ t nil name zero (here.names name (Obj nil) named) (here.temps t room) e tests v u vu at in
+    leaf ρ here holds t room n 120 n r.0 (truth (not (truthy v))) (Truth (not (truthy v))) ts e sets r.1 (truth_is (not (truthy v))) (omega arith) (omega arith)

@@ -20,7 +20,7 @@ use Rattle.both_meanings.specs.Names.{self_name}
 use Rattle.both_meanings.specs.Carries.{Heap, id_name, mod_name, stub_name, method_name, IsPlain, IsVariable, own_of}
 use Rattle.both_meanings.specs.World.{Target, OfFrame, OfCall, Role, Token, Carrier, Listed, World}
 use Rattle.both_meanings.specs.Holds.{Scheme, open_name, token_name, value_name, Serves, Holds}
-use Rattle.both_meanings.proofs.Records.{same_or_not}
+use Rattle.both_meanings.proofs.Basics.{same_or_not, head_is}
 use Rattle.both_meanings.proofs.Holding.{carries_same}
 use Rattle.both_meanings.proofs.Quiet.{IsPrivate, SameBut, own_same, get_same, id_same, mod_same, carries_but}
 
@@ -31,9 +31,6 @@ names_apart a b e i = let d : bytes_eq a b ≡ true = (bytes_eq-Decides a b).1 i
   where
     true_false : true ≡ false → ⊥
     true_false q = cc
-
-head_is : (a b : ℕ) (x y : List ℕ) → a ∷ x ≡ b ∷ y → a ≡ b
-head_is a b x y e = cc
 
 no_item : (a : ℕ) (x : List ℕ) → a ∷ x ≡ [] → ⊥
 no_item a x e = cc
